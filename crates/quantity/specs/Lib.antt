@@ -1,0 +1,4 @@
+pub mod Refusals
+pub mod Rounding
+pub mod Quantities
+pub mod Series
