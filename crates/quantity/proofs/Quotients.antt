@@ -24,12 +24,6 @@ module _ (n d q r : ℕ) (is : n ≡ q * d + r) (small : r < d) where
       let a : (q + 1) * (2 * d) ≡ q * (2 * d) + 1 * (2 * d) = add-mul q 1 (2 * d) in
       div-eq-of-lt-le (2 * d) (omega arith) (omega arith)
 
-  pub up-within : d ≤ 2 * r → q + 1 ≤ n
-  up-within h =
-      let one : 1 ≤ d = omega arith in
-      let p : q * 1 ≤ q * d = mul-le-mul-left q one in
-      omega arith
-
 -- ---- nearest it is
 spans : (n d : ℕ) → 0 < d → (2 * (nearest n d * d) ≤ 2 * n + d) × (2 * n + d < 2 * (nearest n d * d) + 2 * d)
 spans n d h =
@@ -134,6 +128,9 @@ nearest-within n b d h le =
     let r : nearest n d < b + 1 = lt-of-mul-lt-mul-right d lt in
     omega arith
 
+pub nearest-less : (n d : ℕ) → 0 < d → nearest n d ≤ n
+nearest-less n d h = let le : n * 1 ≤ n * d = mul-le-mul-left n h in nearest-within n n d h (omega arith)
+
 rounded-neg : (k d : ℕ) → 0 < d → rounded (negℤ (pos k)) d ≡ negℤ (pos (nearest k d))
 rounded-neg zero d h =
     let none : nearest 0 d ≡ 0 = nearest-down 0 d 0 0 (omega arith) h (omega arith) in
@@ -159,10 +156,7 @@ lasting-fits (negsuc n) m fits h =
 
 pub rounded-fits : (z : ℤ) (d : ℕ) → 0 < d → SFits w64 z → SFits w64 (rounded z d)
 rounded-fits (pos n) d h fits =
-    let le : n * 1 ≤ n * d = mul-le-mul-left n h in
-    let w = nearest-within n n d h (omega arith) in
+    let w = nearest-less n d h in
     omega (arith, ints)
 rounded-fits (negsuc n) d h fits =
-    let le : suc n * 1 ≤ suc n * d = mul-le-mul-left (suc n) h in
-    let w = nearest-within (suc n) (suc n) d h (omega arith) in
-    neg-fits (nearest (suc n) d) n w (omega (arith, ints))
+    neg-fits (nearest (suc n) d) n (nearest-less (suc n) d h) (omega (arith, ints))

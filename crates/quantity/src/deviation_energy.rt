@@ -1,7 +1,7 @@
 //! Deviation energies, and their shares in what was activated.
 
 ghost use mathlib.Core.Path.{_≡_};
-ghost use Prim.Native.Nat.{_*_, _^_, _≤_, _<_};
+ghost use Prim.Native.Nat.{_+_, _*_, _^_, _≤_, _<_};
 ghost use lib.IntN.{pos};
 ghost use lib.Signed.{_≤ℤ_};
 ghost use Rattle.std.specs.Options.{Cases};
@@ -9,6 +9,7 @@ ghost use Rattle.quantity.specs.Rounding.{nearest};
 ghost use Rattle.quantity.specs.Quantities.{shareOf};
 use crate::activated_energy::ActivatedEnergy;
 use crate::energy::Energy;
+use crate::rounding::round_division;
 use crate::share::Share;
 
 /// 100 % in units of 10^-10 percent.
@@ -24,24 +25,52 @@ pub struct DeviationEnergy {
     ghost some: { pos 0 ≤ℤ energy .units },
 }
 
-/// `part / whole` in so many decimal places, rounded, by long division: no product of the two sides is formed.
-fn divide(part: u64, whole: u64) -> u64
-    requires { ⌜ part < whole ⌝ ∗ ⌜ whole ≤ 25000000000000 ⌝ }
-    ensures value { λ r. ⌜ r ≡ nearest (part * 10 ^ 12) whole ⌝ }
-    ensures bound { λ r. ⌜ r ≤ 10 ^ 12 ⌝ }
+/// The digits of a quotient so far, and what is left to divide.
+#[derive(Clone, Copy)]
+struct Division {
+    digits: u64,
+    rest: u64,
+}
+
+/// `part / whole` to so many decimal places, one digit after another: no product of the two sides is formed.
+fn divide(part: u64, whole: u64, places: usize) -> Division
+    requires part { ⌜ part < whole ⌝ }
+    requires whole { ⌜ whole ≤ 25000000000000 ⌝ }
+    requires places { ⌜ places ≤ 12 ⌝ }
+    ensures exact { λ r. ⌜ part * 10 ^ places ≡ r .digits * whole + r .rest ⌝ }
+    ensures rest { λ r. ⌜ r .rest < whole ⌝ }
+    ensures digits { λ r. ⌜ r .digits < 10 ^ places ⌝ }
 {
     let mut rest = part;
     let mut digits: u64 = 0;
-    for _place in 0..PLACES {
+    for _place in 0..places {
         rest *= 10;
         digits = digits * 10 + rest / whole;
         rest %= whole;
     }
-    if rest >= whole - rest {
-        digits + 1
-    } else {
-        digits
-    }
+    Division { digits, rest }
+}
+
+/// The places of a share.
+fn share_places(part: u64, whole: u64) -> Division
+    requires part { ⌜ part < whole ⌝ }
+    requires whole { ⌜ whole ≤ 25000000000000 ⌝ }
+    ensures exact { λ r. ⌜ part * 10 ^ 12 ≡ r .digits * whole + r .rest ⌝ }
+    ensures rest { λ r. ⌜ r .rest < whole ⌝ }
+    ensures digits { λ r. ⌜ r .digits < 10 ^ 12 ⌝ }
+{
+    divide(part, whole, PLACES)
+}
+
+/// The share of a part that is less than the whole.
+fn share_units(part: u64, whole: u64) -> u64
+    requires part { ⌜ part < whole ⌝ }
+    requires whole { ⌜ whole ≤ 25000000000000 ⌝ }
+    ensures value { λ r. ⌜ r ≡ nearest (part * 10 ^ 12) whole ⌝ }
+    ensures bound { λ r. ⌜ r ≤ 10 ^ 12 ⌝ }
+{
+    let found = share_places(part, whole);
+    round_division(found.digits as u128, found.rest as u128, whole as u128) as u64
 }
 
 impl DeviationEnergy {
@@ -73,7 +102,7 @@ impl DeviationEnergy {
         } else if part >= whole {
             Share::from_units(WHOLE)
         } else {
-            Share::from_units(divide(part as u64, whole as u64) as i64)
+            Share::from_units(share_units(part as u64, whole as u64) as i64)
         }
     }
 }

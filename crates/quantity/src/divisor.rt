@@ -25,7 +25,7 @@ impl Divisor {
         Some(Divisor { value })
     }
 
-    pub fn value(self) -> u64
+    pub(crate) fn value(self) -> u64
         ensures value { λ r. ⌜ r ≡ self .value ⌝ }
         ensures some { λ r. ⌜ 0 < r ⌝ }
     {

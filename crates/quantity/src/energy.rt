@@ -3,13 +3,11 @@
 ghost use mathlib.Core.Path.{_≡_};
 ghost use Rattle.std.specs.Options.{Cases};
 ghost use Rattle.quantity.specs.Quantities.{powerOf, Held};
+use crate::minutes::HOUR;
 use crate::minutes::Minutes;
 use crate::power::Power;
 use crate::rounding::round_wide;
 use crate::rounding::scaled;
-
-/// The minutes of an hour, within which a power of 1 MW gives 1 MWh.
-const HOUR: u8 = 60;
 
 /// An energy in units of 10^-10 MWh.
 #[derive(Clone, Copy, PartialEq, Eq, Debug)]

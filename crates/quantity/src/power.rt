@@ -1,16 +1,17 @@
 //! Powers.
 
 ghost use mathlib.Core.Path.{_≡_};
+ghost use Prim.Native.Nat.{_≤_};
+ghost use lib.IntN.{pos, _*ℤ_};
+ghost use Rattle.quantity.specs.Rounding.{rounded};
 ghost use Rattle.quantity.specs.Quantities.{energyOf, partOf};
 use crate::divisor::Divisor;
 use crate::energy::Energy;
+use crate::minutes::HOUR;
 use crate::minutes::Minutes;
 use crate::rounding::round_quotient;
 use crate::rounding::round_wide;
 use crate::rounding::scaled;
-
-/// The minutes of an hour, for which a power of 1 MW gives 1 MWh.
-const HOUR: u64 = 60;
 
 /// The largest power that any call takes: 10,000 MW.
 pub const POWER_LIMIT: i64 = 100_000_000_000_000;
@@ -19,6 +20,15 @@ pub const POWER_LIMIT: i64 = 100_000_000_000_000;
 #[derive(Clone, Copy, PartialEq, Eq, Debug)]
 pub struct Power {
     units: i64,
+}
+
+/// The units of a power for so many minutes of an hour.
+fn hourly(units: i64, minutes: u8) -> i64
+    requires { ⌜ minutes ≤ 60 ⌝ }
+    ensures { λ r. ⌜ r ≡ rounded (units *ℤ pos minutes) 60 ⌝ }
+{
+    let wide = round_wide(scaled(units, minutes), HOUR as u64);
+    wide as i64
 }
 
 impl Power {
@@ -38,7 +48,7 @@ impl Power {
     pub fn lasting(self, time: Minutes) -> Energy
         ensures { λ r. ⌜ r ≡ energyOf self (time .count) ⌝ }
     {
-        Energy::from_units(round_wide(scaled(self.units, time.count()), HOUR) as i64)
+        Energy::from_units(hourly(self.units, time.count()))
     }
 
     /// One of so many equal parts.

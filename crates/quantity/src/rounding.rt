@@ -1,20 +1,41 @@
 //! Rounding: the nearest whole number, a half going away from zero.
 
 ghost use mathlib.Core.Path.{_≡_};
-ghost use Prim.Native.Nat.{_^_, _<_, _≤_};
+ghost use Prim.Native.Nat.{_+_, _*_, _^_, _<_, _≤_};
+ghost use lib.Dec.{leb};
 ghost use lib.IntN.{ℤ, pos, natAbs, _*ℤ_};
 ghost use Rattle.quantity.specs.Rounding.{nearest, rounded, Nearest};
 use crate::divisor::Divisor;
 
+/// Whether a remainder is half of its divisor or more.
+fn reaches_half(rest: u128, d: u128) -> bool
+    requires { ⌜ rest < d ⌝ }
+    ensures { λ r. ⌜ r ≡ leb d (2 * rest) ⌝ }
+{
+    rest >= d - rest
+}
+
+/// A size, rounded from its quotient and its remainder.
+pub(crate) fn round_division(whole: u128, rest: u128, d: u128) -> u128
+    requires rest { ⌜ rest < d ⌝ }
+    requires whole { ⌜ whole < 2 ^ 127 ⌝ }
+    ensures value { λ r. ⌜ r ≡ nearest (whole * d + rest) d ⌝ }
+    ensures bound { λ r. ⌜ r ≤ whole + 1 ⌝ }
+{
+    if reaches_half(rest, d) {
+        whole + 1
+    } else {
+        whole
+    }
+}
+
 /// The size of a quotient.
 fn round_size(n: u128, d: u128) -> u128
-    requires { ⌜ 0 < d ⌝ }
+    requires { ⌜ 0 < d ⌝ ∗ ⌜ n < 2 ^ 127 ⌝ }
     ensures value { λ r. ⌜ r ≡ nearest n d ⌝ }
     ensures bound { λ r. ⌜ r ≤ n ⌝ }
 {
-    let whole = n / d;
-    let rest = n % d;
-    if rest >= d - rest { whole + 1 } else { whole }
+    round_division(n / d, n % d, d)
 }
 
 /// A quotient whose dividend may be wider than a figure.

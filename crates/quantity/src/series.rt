@@ -1,9 +1,7 @@
 //! Series of figures.
 
+ghost use mathlib.Core.Bool.{not};
 ghost use mathlib.Core.Path.{_≡_};
-ghost use Prim.Native.Nat.{_^_, _*_, _≤_};
-ghost use lib.IntN.{natAbs};
-ghost use lib.ListN.{length};
 ghost use Rattle.quantity.specs.Series.{within, every, total as totalOf};
 
 /// Whether a figure lies from low to high, both included.
@@ -13,16 +11,23 @@ pub fn is_within(figure: i64, low: i64, high: i64) -> bool
     low <= figure && figure <= high
 }
 
+/// Whether some figure lies below low or above high.
+fn any_outside(figures: &[i64], low: i64, high: i64) -> bool
+    ensures { λ r. ⌜ r ≡ not (every (within low high) (now (figures .entry))) ⌝ }
+{
+    for figure in figures {
+        if !is_within(*figure, low, high) {
+            return true;
+        }
+    }
+    false
+}
+
 /// Whether each figure lies from low to high, both included.
 pub fn all_within(figures: &[i64], low: i64, high: i64) -> bool
     ensures { λ r. ⌜ r ≡ every (within low high) (now (figures .entry)) ⌝ }
 {
-    for figure in figures {
-        if !is_within(*figure, low, high) {
-            return false;
-        }
-    }
-    true
+    !any_outside(figures, low, high)
 }
 
 /// What the figures come to; 128 bits hold the sum of any slice.

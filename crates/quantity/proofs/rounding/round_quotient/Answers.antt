@@ -1,6 +1,5 @@
 use mathlib.Core.Path.{_≡_, refl}
 use native.Mathlib.Omega.{arith}
-use borrow.Author.Needs.{needs}
 use mir.Syntax.{w64, w128}
 use mir.Val.{SFits}
 use Rattle.std.proofs.shelf.Signed.{ints, toZ-ofZ}
@@ -12,8 +11,8 @@ pub returns : need.returns
 returns c =
     let n = c .args .n in
     let d = c .args .d .value in
-    let wide : SFits w128 n = omega (arith, ints) in
     let some = c .args .d .some in
+    let wide : SFits w128 n = omega (arith, ints) in
     let is : c .round-wide .result ≡ rounded n d = rw (toZ-ofZ w64 n (c .fits .n), toZ-ofZ w128 n wide, c .value .ensures .value) at (c .round-wide .ensures .value) in
     let slim : SFits w64 (rounded n d) = rounded-fits n d some (c .fits .n) in
     let held : SFits w128 (rounded n d) = omega (arith, ints) in
