@@ -64,6 +64,15 @@ fn is_sampled(samples: &[i64], low: i64, high: i64) -> bool
     samples.len() == SAMPLES && all_within(samples, low, high)
 }
 
+/// What both directions come to together.
+fn net(raised: i128, lowered: i128) -> i128
+    requires raised { ⌜ natAbs raised ≤ 10 ^ 14 * 30 ⌝ }
+    requires lowered { ⌜ natAbs lowered ≤ 10 ^ 14 * 30 ⌝ }
+    ensures { λ r. ⌜ r ≡ raised +ℤ lowered ⌝ }
+{
+    raised + lowered
+}
+
 /// What all samples of a minute come to.
 fn sum(upward: &[i64], downward: &[i64]) -> Power
     requires up { ⌜ sampled (pos 0) powerLimit (now upward) ≡ true ⌝ }
@@ -71,7 +80,7 @@ fn sum(upward: &[i64], downward: &[i64]) -> Power
     ensures value { λ r. ⌜ r .units ≡ totalOf (now (upward .entry)) +ℤ totalOf (now (downward .entry)) ⌝ }
     ensures bound { λ r. ⌜ natAbs (r .units) ≤ 10 ^ 14 * 30 ⌝ }
 {
-    Power::from_units((total(upward) + total(downward)) as i64)
+    Power::from_units(net(total(upward), total(downward)) as i64)
 }
 
 /// The mean power of a minute.

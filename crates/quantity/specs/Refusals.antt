@@ -6,13 +6,14 @@ use Rattle.std.specs.declared.option.Option.{Option}
 use Rattle.std.specs.declared.option.Option.the-variants.{Some, None}
 use Rattle.std.specs.declared.result.Result.{Result}
 use Rattle.quantity.specs.declared.refusal.Refusal.{Refusal}
-use Rattle.quantity.specs.declared.refusal.Refusal.the-variants.{OutOfRange, BufferTooShort, NotInForm}
+use Rattle.quantity.specs.declared.refusal.Refusal.the-variants.{OutOfRange, BufferTooShort, NotInForm, NotALine}
 
 -- the number by which the rules know a refusal
 abbrev pub numberOf : Refusal → ℕ
 numberOf OutOfRange = 11
 numberOf BufferTooShort = 16
 numberOf NotInForm = 17
+numberOf NotALine = 18
 
 -- refused with this number
 abbrev pub Refused : {A : Type 0} → ℕ → Result A Refusal → Type 0

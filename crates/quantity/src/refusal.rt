@@ -11,6 +11,8 @@ pub enum Refusal {
     BufferTooShort,
     /// A text is not in the form of what it should hold.
     NotInForm,
+    /// The letter or the length of a line fits no line.
+    NotALine,
 }
 
 impl Refusal {
@@ -23,6 +25,7 @@ impl Refusal {
             Refusal::OutOfRange => 11,
             Refusal::BufferTooShort => 16,
             Refusal::NotInForm => 17,
+            Refusal::NotALine => 18,
         }
     }
 }

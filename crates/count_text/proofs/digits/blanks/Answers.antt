@@ -1,0 +1,17 @@
+use mathlib.Core.Path.{_≡_}
+use native.Mathlib.Omega.{arith}
+use lib.ListN.{length}
+use Rattle.std.proofs.shelf.Lists.{getD-past}
+use Rattle.count_text.proofs.Columns.{one-more-blank}
+use Rattle.count_text.proofs.digits.blanks.Needs as need
+
+pub loop-i-again : need.loop-i-again
+loop-i-again c = one-more-blank _ _ (c .loop-i-test .taken) (c .if-byte-ne32 .left) (c .loop-i .inv)
+
+pub returns-then-byte-ne32 : need.returns-then-byte-ne32
+returns-then-byte-ne32 c = record { within = omega arith; front = c .loop-i .inv; next = c .if-byte-ne32 .taken }
+
+pub returns : need.returns
+returns c =
+    let e : c .loop-i .i ≡ length (c .args .text .now) = omega arith in
+    record { within = omega arith; front = rw e at (c .loop-i .inv); next = λ h. omega (arith, h, getD-past (c .args .text .now) (length (c .args .text .now)) 0 (omega arith)) }

@@ -1,0 +1,47 @@
+//! Counts, written and read.
+
+ghost use mathlib.Core.Path.{_≡_};
+ghost use Prim.Native.Nat.{ℕ};
+ghost use lib.ListN.{length};
+ghost use Rattle.std.specs.Results.{Cases};
+ghost use Rattle.std.specs.declared.result.Result.the-variants.{Ok};
+ghost use Rattle.quantity.specs.Refusals.{numberOf, Answers};
+ghost use Rattle.count_text.specs.Columns.{countText, CountIn, countRefusal, bytesAfter};
+use crate::digits::blanks;
+use crate::digits::digit_count;
+use crate::digits::read_plain;
+use crate::digits::write_fixed;
+use crate::width::Width;
+use quantity::Refusal;
+
+/// Writes a count over the first columns of `out`.
+/// Refuses a count with more digits than columns (11), then a buffer with fewer bytes than columns (16), and leaves every byte as it was.
+pub fn write_count(n: u64, width: Width, out: &mut [u8]) -> Result<(), Refusal>
+    ensures first_refusal { λ r. ⌜ Answers (countRefusal (width .columns) n (length (now (out .entry)))) (λ _. Unit {0}) r ⌝ }
+    ensures bytes { λ _. ⌜ now (out .exit) ≡ bytesAfter (countRefusal (width .columns) n (length (now (out .entry)))) (countText (width .columns) n) (now (out .entry)) ⌝ }
+{
+    if !width.holds(n) {
+        return Err(Refusal::OutOfRange);
+    }
+    let columns = width.columns();
+    if out.len() < columns {
+        return Err(Refusal::BufferTooShort);
+    }
+    let start = columns - digit_count(n);
+    out[0..start].fill(b' ');
+    write_fixed(n, &mut out[start..columns]);
+    Ok(())
+}
+
+/// Reads a count from a text that is as long as its columns.
+/// Refuses a text that no count has in these columns (17).
+pub fn read_count(text: &[u8], width: Width) -> Result<u64, Refusal>
+    ensures written_is_read { λ r. ⌜ ((n : ℕ) → CountIn (width .columns) n (now (text .entry)) → r ≡ Ok n) ⌝ }
+    ensures read_is_written { λ r. ⌜ ((n : ℕ) → r ≡ Ok n → CountIn (width .columns) n (now (text .entry))) ⌝ }
+    ensures refused { λ r. ⌜ Cases r (λ _. Unit {0}) (λ why. numberOf why ≡ 17) ⌝ }
+{
+    if text.len() != width.columns() {
+        return Err(Refusal::NotInForm);
+    }
+    read_plain(&text[blanks(text)..]).ok_or(Refusal::NotInForm)
+}
