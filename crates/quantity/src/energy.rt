@@ -10,7 +10,7 @@ use crate::rounding::round_wide;
 use crate::rounding::scaled;
 
 /// An energy in units of 10^-10 MWh.
-#[derive(Clone, Copy, PartialEq, Eq, Debug)]
+#[derive(Clone, Copy)]
 pub struct Energy {
     units: i64,
 }

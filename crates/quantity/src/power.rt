@@ -17,7 +17,7 @@ use crate::rounding::scaled;
 pub const POWER_LIMIT: i64 = 100_000_000_000_000;
 
 /// A power in units of 10^-10 MW.
-#[derive(Clone, Copy, PartialEq, Eq, Debug)]
+#[derive(Clone, Copy)]
 pub struct Power {
     units: i64,
 }

@@ -3,7 +3,7 @@
 ghost use mathlib.Core.Path.{_≡_};
 
 /// A share in units of 10^-10 percent.
-#[derive(Clone, Copy, PartialEq, Eq, Debug)]
+#[derive(Clone, Copy)]
 pub struct Share {
     units: i64,
 }

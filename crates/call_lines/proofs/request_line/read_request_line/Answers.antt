@@ -58,4 +58,4 @@ returns-in-Err-read-row c =
     let minute = c .in-Ok .ensures tt .read-is-written _ refl in
     let row = rw (take-rest line 3) at (c .in-Err-read-row .ensures tt) in
     let f = sample-fault line (c .in-Err-read-row .k) _ _ (row .0) letter whole (_, minute) (row .1) (row .2) in
-    record { written-is-read = λ q h. absurd (fault-alone line _ _ f q h); read-is-written = tt; first-fault = f }
+    record { written-is-read = λ q h. absurd (fault-alone line _ _ f q h); read-is-written = tt; first-fault = rw (c .sample-column .ensures) f }
