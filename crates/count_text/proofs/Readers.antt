@@ -9,7 +9,7 @@ use Rattle.std.specs.declared.option.Option.the-variants.{Some, None}
 use Rattle.std.specs.declared.result.Result.{Result}
 use Rattle.std.specs.declared.result.Result.the-variants.{Ok}
 use Rattle.std.specs.Options.{okOr}
-use Rattle.std.specs.Results.{okPart, Cases}
+use Rattle.std.specs.Results.{okPart}
 use Rattle.std.specs.Reads.{Digits, value}
 use Rattle.std.specs.Written.{decimal}
 use Rattle.std.proofs.shelf.Digits.{digits-more, value-more, value-lt}
@@ -18,8 +18,7 @@ use Rattle.std.proofs.shelf.Lists.{length-take-le}
 use Rattle.std.proofs.shelf.Numerals.{Numerals, numerals-by-value, tells-digits}
 use Rattle.quantity.specs.declared.refusal.Refusal.{Refusal}
 use Rattle.quantity.specs.declared.refusal.Refusal.the-variants.{NotInForm}
-use Rattle.quantity.specs.Refusals.{numberOf}
-use Rattle.count_text.specs.Columns.{PlainIn, FixedIn, Reads}
+use Rattle.count_text.specs.Columns.{PlainIn, FixedIn, Reads, RefusesBy}
 use Rattle.count_text.proofs.Decimals.{no-needless-zero, pow-ten-le, lt-by-length}
 use Rattle.count_text.proofs.LastDigits.{digitValue-is, last-are-digits, value-last, digits-are-last, decimal-is-last}
 
@@ -38,7 +37,7 @@ okPart-okOr : {X : Type 0} (o : Option X) → okPart (okOr o NotInForm) ≡ o
 okPart-okOr None = refl
 okPart-okOr (Some x) = refl
 
-refused-okOr : {X : Type 0} (o : Option X) → Cases (okOr o NotInForm) (λ _. Unit {0}) (λ why. numberOf why ≡ 17)
+refused-okOr : {X : Type 0} (o : Option X) → RefusesBy 17 (okOr o NotInForm)
 refused-okOr None = refl
 refused-okOr (Some x) = tt
 
@@ -49,7 +48,7 @@ module _ {X : Type 0} (Has : X → List ℕ → Type 0) (text : List ℕ) (o : O
   pub written-where-ok : (x : X) → r ≡ Ok x → Has x text
   written-where-ok x e = reads .read-is-written x (sym (okPart-okOr o) ∙ ap okPart (sym is ∙ e))
 
-  pub else-refused : Cases r (λ _. Unit {0}) (λ why. numberOf why ≡ 17)
+  pub else-refused : RefusesBy 17 r
   else-refused = rw is (refused-okOr o)
 
 -- ---- one digit more is read

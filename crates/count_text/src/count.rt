@@ -3,10 +3,8 @@
 ghost use mathlib.Core.Path.{_≡_};
 ghost use Prim.Native.Nat.{ℕ};
 ghost use lib.ListN.{length};
-ghost use Rattle.std.specs.Results.{Cases};
 ghost use Rattle.std.specs.declared.result.Result.the-variants.{Ok};
-ghost use Rattle.quantity.specs.Refusals.{numberOf, Answers};
-ghost use Rattle.count_text.specs.Columns.{countText, CountIn, countRefusal, bytesAfter};
+ghost use Rattle.count_text.specs.Columns.{countText, CountIn, countRefusal, Writes, bytesAfter, RefusesBy};
 use crate::digits::blanks;
 use crate::digits::digit_count;
 use crate::digits::read_plain;
@@ -15,9 +13,9 @@ use crate::width::Width;
 use quantity::Refusal;
 
 /// Writes a count over the first columns of `out`.
-/// Refuses a count with more digits than columns (11), then a buffer with fewer bytes than columns (16), and leaves every byte as it was.
+/// Refuses a count with more digits than columns (11), then a buffer with fewer bytes than columns (16); a refusal leaves every byte as it was.
 pub fn write_count(n: u64, width: Width, out: &mut [u8]) -> Result<(), Refusal>
-    ensures first_refusal { λ r. ⌜ Answers (countRefusal (width .columns) n (length (now (out .entry)))) (λ _. Unit {0}) r ⌝ }
+    ensures refused_first { λ r. ⌜ Writes (countRefusal (width .columns) n (length (now (out .entry)))) r ⌝ }
     ensures bytes { λ _. ⌜ now (out .exit) ≡ bytesAfter (countRefusal (width .columns) n (length (now (out .entry)))) (countText (width .columns) n) (now (out .entry)) ⌝ }
 {
     if !width.holds(n) {
@@ -38,7 +36,7 @@ pub fn write_count(n: u64, width: Width, out: &mut [u8]) -> Result<(), Refusal>
 pub fn read_count(text: &[u8], width: Width) -> Result<u64, Refusal>
     ensures written_is_read { λ r. ⌜ ((n : ℕ) → CountIn (width .columns) n (now (text .entry)) → r ≡ Ok n) ⌝ }
     ensures read_is_written { λ r. ⌜ ((n : ℕ) → r ≡ Ok n → CountIn (width .columns) n (now (text .entry))) ⌝ }
-    ensures refused { λ r. ⌜ Cases r (λ _. Unit {0}) (λ why. numberOf why ≡ 17) ⌝ }
+    ensures refused { λ r. ⌜ RefusesBy 17 r ⌝ }
 {
     if text.len() != width.columns() {
         return Err(Refusal::NotInForm);

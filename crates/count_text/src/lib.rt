@@ -55,26 +55,28 @@ mod tests {
     }
 
     // columns, a count, what a buffer of dots holds afterwards, the refusal
+    const WRITTEN: [(usize, u64, &str, u8); 16] = [
+        (1, 0, "0", 0),
+        (1, 9, "9", 0),
+        (1, 10, ".", 11),
+        (3, 0, "  0", 0),
+        (3, 42, " 42", 0),
+        (3, 42, " 42....", 0),
+        (3, 999, "999", 0),
+        (3, 1000, "....", 11),
+        (3, 1000, "..", 11),
+        (3, 42, "..", 16),
+        (3, 42, "", 16),
+        (18, 0, "                 0", 0),
+        (18, 999_999_999_999_999_999, "999999999999999999.", 0),
+        (18, 1_000_000_000_000_000_000, "..................", 11),
+        (18, u64::MAX, "..................", 11),
+        (18, 0, ".................", 16),
+    ];
+
     #[test]
     fn counts_written() -> Result<(), Fail> {
-        for (columns, n, bytes, refusal) in [
-            (1, 0, "0", 0),
-            (1, 9, "9", 0),
-            (1, 10, ".", 11),
-            (3, 0, "  0", 0),
-            (3, 42, " 42", 0),
-            (3, 42, " 42....", 0),
-            (3, 999, "999", 0),
-            (3, 1000, "....", 11),
-            (3, 1000, "..", 11),
-            (3, 42, "..", 16),
-            (3, 42, "", 16),
-            (18, 0, "                 0", 0),
-            (18, 999_999_999_999_999_999, "999999999999999999.", 0),
-            (18, 1_000_000_000_000_000_000, "..................", 11),
-            (18, u64::MAX, "..................", 11),
-            (18, 0, ".................", 16),
-        ] {
+        for (columns, n, bytes, refusal) in WRITTEN {
             let Some(width) = Width::new(columns) else {
                 return Err(Fail::new("no such width"));
             };
@@ -86,18 +88,21 @@ mod tests {
         Ok(())
     }
 
+    // columns, a text, its count
+    const READ: [(usize, &str, u64); 8] = [
+        (1, "0", 0),
+        (1, "9", 9),
+        (3, "  0", 0),
+        (3, " 42", 42),
+        (3, "100", 100),
+        (3, "999", 999),
+        (18, "                 0", 0),
+        (18, "999999999999999999", 999_999_999_999_999_999),
+    ];
+
     #[test]
     fn counts_read() -> Result<(), Fail> {
-        for (columns, text, n) in [
-            (1, "0", 0),
-            (1, "9", 9),
-            (3, "  0", 0),
-            (3, " 42", 42),
-            (3, "100", 100),
-            (3, "999", 999),
-            (18, "                 0", 0),
-            (18, "999999999999999999", 999_999_999_999_999_999),
-        ] {
+        for (columns, text, n) in READ {
             let Some(width) = Width::new(columns) else {
                 return Err(Fail::new("no such width"));
             };
@@ -106,27 +111,30 @@ mod tests {
         Ok(())
     }
 
+    // columns, a text that no count has in them
+    const REFUSED: [(usize, &str); 17] = [
+        (1, ""),
+        (1, " "),
+        (1, "x"),
+        (1, "10"),
+        (3, "   "),
+        (3, "042"),
+        (3, " 00"),
+        (3, "4 2"),
+        (3, "42 "),
+        (3, "\t42"),
+        (3, " +4"),
+        (3, " -4"),
+        (3, "4.2"),
+        (3, "42"),
+        (3, "  42"),
+        (18, "99999999999999999"),
+        (18, "9999999999999999999"),
+    ];
+
     #[test]
     fn texts_refused() -> Result<(), Fail> {
-        for (columns, text) in [
-            (1, ""),
-            (1, " "),
-            (1, "x"),
-            (1, "10"),
-            (3, "   "),
-            (3, "042"),
-            (3, " 00"),
-            (3, "4 2"),
-            (3, "42 "),
-            (3, "\t42"),
-            (3, " +4"),
-            (3, " -4"),
-            (3, "4.2"),
-            (3, "42"),
-            (3, "  42"),
-            (18, "99999999999999999"),
-            (18, "9999999999999999999"),
-        ] {
+        for (columns, text) in REFUSED {
             let Some(width) = Width::new(columns) else {
                 return Err(Fail::new("no such width"));
             };
@@ -135,26 +143,29 @@ mod tests {
         Ok(())
     }
 
+    // a text, its number with zeros, its number without, its blanks
+    const PARTS: [(&str, Option<u64>, Option<u64>, usize); 11] = [
+        ("", None, None, 0),
+        ("7", Some(7), Some(7), 0),
+        ("0", Some(0), Some(0), 0),
+        ("007", Some(7), None, 0),
+        ("000", Some(0), None, 0),
+        (
+            "999999999999999999",
+            Some(999_999_999_999_999_999),
+            Some(999_999_999_999_999_999),
+            0,
+        ),
+        ("9999999999999999999", None, None, 0),
+        ("  7", None, None, 2),
+        ("   ", None, None, 3),
+        ("\t7", None, None, 0),
+        ("7 ", None, None, 0),
+    ];
+
     #[test]
     fn parts() -> Result<(), Fail> {
-        for (text, fixed, plain, before) in [
-            ("", None, None, 0),
-            ("7", Some(7), Some(7), 0),
-            ("0", Some(0), Some(0), 0),
-            ("007", Some(7), None, 0),
-            ("000", Some(0), None, 0),
-            (
-                "999999999999999999",
-                Some(999_999_999_999_999_999),
-                Some(999_999_999_999_999_999),
-                0,
-            ),
-            ("9999999999999999999", None, None, 0),
-            ("  7", None, None, 2),
-            ("   ", None, None, 3),
-            ("\t7", None, None, 0),
-            ("7 ", None, None, 0),
-        ] {
+        for (text, fixed, plain, before) in PARTS {
             check_eq(read_fixed(text.as_bytes()), fixed).note(text)?;
             check_eq(read_plain(text.as_bytes()), plain).note(text)?;
             check_eq(blanks(text.as_bytes()), before).note(text)?;

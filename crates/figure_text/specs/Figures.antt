@@ -8,12 +8,12 @@ use Rattle.std.specs.declared.option.Option.{Option}
 use Rattle.std.specs.Written.{decimal}
 use Rattle.count_text.specs.Columns.{atRight, lastDigits, writeRefusal}
 
--- the minus of a negative figure
+-- the minus (45) of a negative figure
 abbrev pub mark : ℤ → List ℕ
 mark (pos n) = []
 mark (negsuc n) = 45 ∷ []
 
--- a size of so many units: its wholes, the point and ten decimals
+-- a size of so many units: its wholes, the point (46) and ten decimals
 abbrev pub sizeText : ℕ → List ℕ
 sizeText n = decimal (n / 10 ^ 10) ++ 46 ∷ lastDigits 10 n
 

@@ -2,10 +2,8 @@
 
 ghost use mathlib.Core.Path.{_≡_};
 ghost use lib.IntN.{ℤ};
-ghost use Rattle.std.specs.Results.{Cases};
 ghost use Rattle.std.specs.declared.result.Result.the-variants.{Ok};
-ghost use Rattle.quantity.specs.Refusals.{numberOf};
-ghost use Rattle.count_text.specs.Columns.{Reads};
+ghost use Rattle.count_text.specs.Columns.{Reads, RefusesBy};
 ghost use Rattle.figure_text.specs.Figures.{SizeIn, SignedIn, FigureIn};
 use crate::form::COLUMNS;
 use crate::form::DECIMALS;
@@ -51,7 +49,7 @@ fn signed_in(text: &[u8]) -> Option<i64>
 pub fn read_figure(text: &[u8]) -> Result<i64, Refusal>
     ensures written_is_read { λ r. ⌜ ((x : ℤ) → FigureIn x (now (text .entry)) → r ≡ Ok x) ⌝ }
     ensures read_is_written { λ r. ⌜ ((x : ℤ) → r ≡ Ok x → FigureIn x (now (text .entry))) ⌝ }
-    ensures refused { λ r. ⌜ Cases r (λ _. Unit {0}) (λ why. numberOf why ≡ 17) ⌝ }
+    ensures refused { λ r. ⌜ RefusesBy 17 r ⌝ }
 {
     if text.len() != COLUMNS {
         return Err(Refusal::NotInForm);

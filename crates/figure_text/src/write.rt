@@ -7,8 +7,7 @@ ghost use lib.IntN.{natAbs};
 ghost use lib.ListN.{length, drop};
 ghost use Rattle.std.specs.Orderings.{Decides};
 ghost use Rattle.std.specs.Results.{Cases};
-ghost use Rattle.quantity.specs.Refusals.{Answers};
-ghost use Rattle.count_text.specs.Columns.{bytesAfter};
+ghost use Rattle.count_text.specs.Columns.{Writes, bytesAfter};
 ghost use Rattle.figure_text.specs.Figures.{wholeText, figureText, figureRefusal};
 use crate::form::COLUMNS;
 use crate::form::POINT;
@@ -28,6 +27,7 @@ pub fn is_writable(units: i64) -> bool
 }
 
 /// Writes what stands before the point over the first columns of `out`.
+/// Refuses nothing, since eight digits at most fit nine columns and leave a blank for the minus.
 fn put_whole(units: i64, out: &mut [u8]) -> Result<(), Refusal>
     requires { ⌜ natAbs units < 10 ^ 18 ⌝ ∗ ⌜ 9 ≤ length (now out) ⌝ }
     ensures { λ r. ⌜ Cases r (λ _. now (out .exit) ≡ wholeText units ++ drop 9 (now (out .entry))) (λ _. ⊥) ⌝ }
@@ -40,9 +40,9 @@ fn put_whole(units: i64, out: &mut [u8]) -> Result<(), Refusal>
 }
 
 /// Writes a figure over the first 20 bytes of `out`.
-/// Refuses a figure with more than eight digits before the point (11), then a buffer of fewer bytes (16), and leaves every byte as it was.
+/// Refuses a figure with more than eight digits before the point (11), then a buffer of fewer bytes (16); a refusal leaves every byte as it was.
 pub fn write_figure(units: i64, out: &mut [u8]) -> Result<(), Refusal>
-    ensures first_refusal { λ r. ⌜ Answers (figureRefusal units (length (now (out .entry)))) (λ _. Unit {0}) r ⌝ }
+    ensures refused_first { λ r. ⌜ Writes (figureRefusal units (length (now (out .entry)))) r ⌝ }
     ensures bytes { λ _. ⌜ now (out .exit) ≡ bytesAfter (figureRefusal units (length (now (out .entry)))) (figureText units) (now (out .entry)) ⌝ }
 {
     if !is_writable(units) {

@@ -14,4 +14,4 @@ returns c =
     let fits : SFits w64 (c .units .result) = search needs in
     let said = rw (toZ-ofZ w64 (c .units .result) fits) at (c .in-Continue-write-figure .ensures tt) in
     let told = c .units .ensures ∙ ap (λ (p : Power). p .units) (c .power .ensures .value) in
-    said .bytes ∙ accepted-whole _ 20 (signedText (c .units .result)) _ (said .first-refusal) refl ∙ ap (λ (x : ℤ). figureText x) told
+    said .bytes ∙ accepted-whole _ 20 (signedText (c .units .result)) _ (said .refused-first) refl ∙ ap (λ (x : ℤ). figureText x) told

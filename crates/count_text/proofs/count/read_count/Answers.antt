@@ -13,7 +13,7 @@ use Rattle.count_text.proofs.count.read_count.Needs as need
 pub returns-then-text-columns : need.returns-then-text-columns
 returns-then-text-columns c =
     let w = c .args .width .columns in
-    let reads = reads-none (CountIn w) (c .args .text .now) (λ n h. c .if-text-columns .taken (omega (arith, length-count w n (c .args .text .now) (omega arith) (omega arith) h))) in
+    let reads = reads-none (CountIn w) (c .args .text .now) (λ n h. omega (arith, length-count w n (c .args .text .now) (omega arith) (omega arith) h)) in
     record { written-is-read = ok-where-written (CountIn w) _ None _ refl reads; read-is-written = written-where-ok (CountIn w) _ None _ refl reads; refused = refl }
 
 pub returns : need.returns

@@ -23,4 +23,4 @@ returns c =
     let b =
     count-written (c .columns-columns .result) w (c .digit-count .result) (c .args .n) (c .args .out .now) _ _ (c .columns-columns .ensures) (omega arith) (c .digit-count .ensures) (digits-le d)
     (omega arith) (c .fill .ensures .after (λ y h. h)) (c .write-fixed .ensures) in
-    record { first-refusal = rw e tt; bytes = rw e b }
+    record { refused-first = rw e tt; bytes = rw e b }

@@ -1,4 +1,4 @@
-use mathlib.Core.Path.{refl, ap, _∙_}
+use mathlib.Core.Path.{refl, ap}
 use Prim.Native.Nat.{_^_, _<_}
 use native.Mathlib.Omega.{arith}
 use lib.IntN.{natAbs}
@@ -14,7 +14,7 @@ use Rattle.figure_text.proofs.read.read_figure.Needs as need
 
 pub returns-then-text-ne-COLUMNS : need.returns-then-text-ne-COLUMNS
 returns-then-text-ne-COLUMNS c =
-    let reads = reads-none FigureIn (c .args .text .now) (λ x h. c .if-text-ne-COLUMNS .taken (ap length (h .1) ∙ length-figure x (h .0))) in
+    let reads = reads-none FigureIn (c .args .text .now) (λ x h. omega (arith, ap length (h .1), length-figure x (h .0))) in
     record { written-is-read = ok-where-written FigureIn _ None _ refl reads; read-is-written = written-where-ok FigureIn _ None _ refl reads; refused = refl }
 
 pub returns : need.returns

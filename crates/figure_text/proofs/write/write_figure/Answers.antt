@@ -17,4 +17,4 @@ returns c =
     let whole = rw same at (c .in-Continue-put-whole .ensures tt) in
     let e = not-refused (natAbs x) (10 ^ 18) 20 (length (c .args .out .now)) small (omega arith) in
     let b = figure-written x small (c .args .out .now) _ _ (omega arith) whole _ (c .unsigned-abs .ensures .value ∙ ap natAbs same) (c .write-fixed .ensures) in
-    record { first-refusal = rw e tt; bytes = rw e b }
+    record { refused-first = rw e tt; bytes = rw e b }
