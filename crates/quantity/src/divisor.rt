@@ -15,6 +15,9 @@ impl Divisor {
     /// The samples of a minute in one direction, one each two seconds.
     pub const THIRTY: Divisor = Divisor { value: 30 };
 
+    /// The part of the bids by which power may stray.
+    pub const TEN: Divisor = Divisor { value: 10 };
+
     /// No divisor is zero.
     pub fn new(value: u64) -> Option<Divisor>
         ensures { λ r. ⌜ Cases r (value ≡ 0) (λ d. d .value ≡ value) ⌝ }
