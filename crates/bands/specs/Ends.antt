@@ -6,6 +6,7 @@ use lib.Signed.{_≤ℤ_, ltZ}
 use Rattle.std.specs.declared.option.Option.{Option}
 use Rattle.std.specs.declared.option.Option.the-variants.{Some, None}
 use Rattle.quantity.specs.declared.power.Power.{Power}
+use Rattle.quantity.specs.Refusals.{unless}
 use Rattle.quantity.specs.Series.{within}
 
 -- the units of an end
@@ -53,4 +54,4 @@ figureLimit = pos (11 * 10 ^ 15)
 
 -- a larger one is refused with 11
 abbrev pub figureRefusal : ℤ → Option ℕ
-figureRefusal x = cond (within (negℤ figureLimit) figureLimit x) None (Some 11)
+figureRefusal x = unless (within (negℤ figureLimit) figureLimit x) 11

@@ -7,6 +7,8 @@ ghost use Rattle.quantity.specs.Refusals.{numberOf, Numbers-differ};
 pub enum Refusal {
     /// A figure or a count lies outside its limits, or a list has not its length.
     OutOfRange,
+    /// The place is taken: an account has its fifteen figures.
+    PlaceTaken,
     /// The caller's buffer is shorter than what is to be written.
     BufferTooShort,
     /// A text is not in the form of what it should hold.
@@ -23,6 +25,7 @@ impl Refusal {
     {
         match self {
             Refusal::OutOfRange => 11,
+            Refusal::PlaceTaken => 12,
             Refusal::BufferTooShort => 16,
             Refusal::NotInForm => 17,
             Refusal::NotALine => 18,

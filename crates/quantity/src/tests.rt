@@ -117,6 +117,7 @@ fn limits_are_included() -> Result<(), Fail> {
 #[test]
 fn each_refusal_has_its_number() -> Result<(), Fail> {
     check_eq(Refusal::OutOfRange.number(), 11)?;
+    check_eq(Refusal::PlaceTaken.number(), 12)?;
     check_eq(Refusal::BufferTooShort.number(), 16)?;
     check_eq(Refusal::NotInForm.number(), 17)?;
     check_eq(Refusal::NotALine.number(), 18)

@@ -1,0 +1,81 @@
+//! The calls of an account.
+
+ghost use mathlib.Core.Bool.{not};
+ghost use mathlib.Core.List.{List, []};
+ghost use mathlib.Core.Path.{_≡_};
+ghost use Prim.Native.Nat.{_+_, _^_, _<_};
+ghost use lib.Dec.{ltb};
+ghost use lib.IntN.{natAbs, _+ℤ_};
+ghost use Rattle.quantity.specs.Refusals.{Answers};
+ghost use Rattle.account.specs.Changes.{Judged, LeastChange};
+ghost use Rattle.account.specs.Accounts.{judged, addRefusal, Holds, HoldsAfter};
+use crate::state::Account;
+use bands::BandRule;
+use bands::distance;
+use quantity::Power;
+use quantity::Refusal;
+
+/// The figures that an account takes: the minutes of a quarter hour.
+const FIGURES: u8 = 15;
+
+/// Whether an account has all its figures.
+fn is_full(count: u8) -> bool
+    ensures { λ r. ⌜ r ≡ not (ltb count 15) ⌝ }
+{
+    count >= FIGURES
+}
+
+/// A total and one distance more.
+fn sum(total: Power, distance: Power) -> Power
+    requires { ⌜ natAbs (total .units) + natAbs (distance .units) < 2 ^ 62 ⌝ }
+    ensures { λ r. ⌜ r .units ≡ total .units +ℤ distance .units ⌝ }
+{
+    Power::from_units(total.units() + distance.units())
+}
+
+impl<R: BandRule + Drop> Account<R> {
+    /// An account with a rule and no figure.
+    pub fn new(rule: R) -> Account<R>
+        ensures rule { λ r. ⌜ r .rule ≡ rule ⌝ }
+        ensures empty { λ r. ⌜ Holds [] (r .total .units) (r .count) ⌝ }
+    {
+        Account {
+            rule,
+            total: Power::from_units(0),
+            count: 0,
+        }
+    }
+
+    /// Judges the figures to come by another rule. The total and the count stay.
+    pub fn replace(&mut self, rule: R)
+        ensures rule { λ _. ⌜ now (self .exit) .rule ≡ rule ⌝ }
+        ensures total { λ _. ⌜ now (self .exit) .total ≡ now (self .entry) .total ⌝ }
+        ensures count { λ _. ⌜ now (self .exit) .count ≡ now (self .entry) .count ⌝ }
+    {
+        self.rule = rule;
+    }
+
+    /// Adds the distance of a figure under the rule that is held.
+    /// Refuses a figure beyond its limit (11), then a sixteenth figure (12); a refusal changes nothing.
+    pub fn add(&mut self, figure: Power) -> Result<(), Refusal>
+        ensures refused_first { λ r. ⌜ Answers (addRefusal (figure .units) (now (self .entry) .count)) (λ _. Unit {0}) r ⌝ }
+        ensures rule { λ _. ⌜ now (self .exit) .rule ≡ now (self .entry) .rule ⌝ }
+        ensures holds { λ _. ⌜ ((js : List Judged) → Holds js (now (self .entry) .total .units) (now (self .entry) .count) → HoldsAfter (addRefusal (figure .units) (now (self .entry) .count)) (judged (lowest (now (self .entry) .rule)) (highest (now (self .entry) .rule)) (figure .units)) js (now (self .exit) .total .units) (now (self .exit) .count)) ⌝ }
+    {
+        let far = distance(&self.rule, figure)?;
+        if is_full(self.count) {
+            return Err(Refusal::PlaceTaken);
+        }
+        self.total = sum(self.total, far);
+        self.count += 1;
+        Ok(())
+    }
+
+    /// The total of the distances.
+    pub fn total(&self) -> Power
+        ensures value { λ r. ⌜ r ≡ now (self .entry) .total ⌝ }
+        ensures least { λ r. ⌜ ((js : List Judged) → Holds js (now (self .entry) .total .units) (now (self .entry) .count) → LeastChange js (r .units)) ⌝ }
+    {
+        self.total
+    }
+}
