@@ -1,28 +1,36 @@
 //! The calls of an account.
 
-ghost use mathlib.Core.Bool.{not};
 ghost use mathlib.Core.List.{List, []};
 ghost use mathlib.Core.Path.{_≡_};
 ghost use Prim.Native.Nat.{_+_, _^_, _<_};
-ghost use lib.Dec.{ltb};
-ghost use lib.IntN.{natAbs, _+ℤ_};
-ghost use Rattle.quantity.specs.Refusals.{Answers};
-ghost use Rattle.account.specs.Changes.{Judged, LeastChange};
+ghost use lib.IntN.{pos, natAbs, _+ℤ_};
+ghost use Rattle.std.specs.declared.option.Option.the-variants.{None};
+ghost use Rattle.quantity.specs.Refusals.{Answers, numberIn};
+ghost use Rattle.bands.specs.Ends.{distanceOf};
+ghost use Rattle.account.specs.Changes.{Judged};
 ghost use Rattle.account.specs.Accounts.{judged, addRefusal, Holds, HoldsAfter};
 use crate::state::Account;
 use bands::BandRule;
+use bands::FIGURE_LIMIT;
 use bands::distance;
 use quantity::Power;
 use quantity::Refusal;
+use quantity::is_within;
 
 /// The figures that an account takes: the minutes of a quarter hour.
 const FIGURES: u8 = 15;
 
-/// Whether an account has all its figures.
-fn is_full(count: u8) -> bool
-    ensures { λ r. ⌜ r ≡ not (ltb count 15) ⌝ }
+/// Why an account that has taken so many figures refuses one more.
+fn add_refusal(figure: Power, count: u8) -> Option<Refusal>
+    ensures { λ r. ⌜ numberIn r ≡ addRefusal (figure .units) count ⌝ }
 {
-    count >= FIGURES
+    if !is_within(figure.units(), -FIGURE_LIMIT, FIGURE_LIMIT) {
+        return Some(Refusal::OutOfRange);
+    }
+    if count >= FIGURES {
+        return Some(Refusal::PlaceTaken);
+    }
+    None
 }
 
 /// A total and one distance more.
@@ -62,20 +70,24 @@ impl<R: BandRule + Drop> Account<R> {
         ensures rule { λ _. ⌜ now (self .exit) .rule ≡ now (self .entry) .rule ⌝ }
         ensures holds { λ _. ⌜ ((js : List Judged) → Holds js (now (self .entry) .total .units) (now (self .entry) .count) → HoldsAfter (addRefusal (figure .units) (now (self .entry) .count)) (judged (lowest (now (self .entry) .rule)) (highest (now (self .entry) .rule)) (figure .units)) js (now (self .exit) .total .units) (now (self .exit) .count)) ⌝ }
     {
-        let far = distance(&self.rule, figure)?;
-        if is_full(self.count) {
-            return Err(Refusal::PlaceTaken);
+        if let Some(why) = add_refusal(figure, self.count) {
+            return Err(why);
         }
-        self.total = sum(self.total, far);
-        self.count += 1;
+        self.take(figure);
         Ok(())
     }
 
-    /// The total of the distances.
-    pub fn total(&self) -> Power
-        ensures value { λ r. ⌜ r ≡ now (self .entry) .total ⌝ }
-        ensures least { λ r. ⌜ ((js : List Judged) → Holds js (now (self .entry) .total .units) (now (self .entry) .count) → LeastChange js (r .units)) ⌝ }
+    /// Takes a figure that is not refused.
+    fn take(&mut self, figure: Power)
+        requires { ⌜ addRefusal (figure .units) (now self .count) ≡ None ⌝ }
+        ensures rule { λ _. ⌜ now (self .exit) .rule ≡ now (self .entry) .rule ⌝ }
+        ensures count { λ _. ⌜ now (self .exit) .count ≡ now (self .entry) .count + 1 ⌝ }
+        ensures total { λ _. ⌜ now (self .exit) .total .units ≡ now (self .entry) .total .units +ℤ pos (distanceOf (lowest (now (self .entry) .rule)) (highest (now (self .entry) .rule)) (figure .units)) ⌝ }
     {
-        self.total
+        let Ok(far) = distance(&self.rule, figure) else {
+            unreachable()
+        };
+        self.total = sum(self.total, far);
+        self.count += 1;
     }
 }

@@ -16,6 +16,7 @@ pub use bid_sum::BidSum;
 pub use floor::Floor;
 pub use floor::FloorRule;
 pub use order::Order;
+pub use outside::FIGURE_LIMIT;
 pub use outside::distance;
 pub use request_orders::HighestFirst;
 pub use request_orders::HighestFirstOrder;
@@ -26,3 +27,6 @@ pub use search::first_foremost;
 pub use tolerance::ToleranceBand;
 pub use tolerance::ToleranceBandRule;
 pub use tolerance::WINDOW;
+
+#[cfg(test)]
+mod tests;

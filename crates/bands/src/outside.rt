@@ -13,7 +13,7 @@ use quantity::Refusal;
 use quantity::is_within;
 
 /// The largest figure that is measured against a band: 1,100,000 MW, more than any pool's groups can come to.
-const FIGURE_LIMIT: i64 = 11_000_000_000_000_000;
+pub const FIGURE_LIMIT: i64 = 11_000_000_000_000_000;
 
 /// How far a figure lies outside a band, or zero. Refuses a figure beyond its limit (11).
 pub fn distance<R: BandRule>(rule: &R, figure: Power) -> Result<Power, Refusal>

@@ -1,8 +1,9 @@
-//! The tolerance band of a minute.
+//! The tolerance band of one minute.
 
 ghost use mathlib.Core.Path.{_≡_};
 ghost use Prim.Native.Nat.{_*_, _^_, _≤_};
 ghost use lib.IntN.{natAbs, _+ℤ_, _-ℤ_};
+ghost use lib.ListN.{length};
 ghost use lib.Signed.{_≤ℤ_};
 ghost use Rattle.std.specs.declared.option.Option.the-variants.{Some};
 ghost use Rattle.bands.specs.Tolerances.{least, greatest, requestUnits, lowEnd, highEnd};
@@ -68,6 +69,7 @@ fn upper_end(request: ActivationRequest, allowance: Allowance) -> Power
 impl ToleranceBand {
     /// The band of a minute, from its window of requests, the minute's own among them.
     pub fn over(window: &[ActivationRequest; WINDOW], allowance: Allowance) -> ToleranceBand
+        ensures seven { λ _. ⌜ length (now (window .entry)) ≡ 7 ⌝ }
         ensures low { λ r. ⌜ r .low .units ≡ lowEnd (now (window .entry)) (allowance .power) ⌝ }
         ensures high { λ r. ⌜ r .high .units ≡ highEnd (now (window .entry)) (allowance .power) ⌝ }
     {

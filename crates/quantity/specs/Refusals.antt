@@ -17,6 +17,11 @@ numberOf BufferTooShort = 16
 numberOf NotInForm = 17
 numberOf NotALine = 18
 
+-- the number of a refusal, where there is one
+abbrev pub numberIn : Option Refusal → Option ℕ
+numberIn None = None
+numberIn (Some why) = Some (numberOf why)
+
 -- refused with this number
 abbrev pub Refused : {A : Type 0} → ℕ → Result A Refusal → Type 0
 Refused number r = Cases r (λ _. ⊥) (λ e. numberOf e ≡ number)

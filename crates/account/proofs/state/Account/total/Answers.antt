@@ -1,6 +1,5 @@
-use mathlib.Core.Path.{refl}
 use Rattle.account.proofs.Nearest.{holds-least}
 use Rattle.account.proofs.state.Account.total.Needs as need
 
 pub returns : need.returns
-returns g c = record { value = refl; least = λ js h. holds-least js _ _ h }
+returns g c = record { value = c .held .ensures; least = λ js h. rw (c .held .ensures) (holds-least js _ _ h) }
