@@ -4,6 +4,7 @@ ghost use mathlib.Core.Path.{_≡_};
 ghost use Prim.Native.Nat.{_*_, _^_, _≤_};
 ghost use mathlib.Core.Bool.{true};
 ghost use lib.IntN.{pos, negℤ, natAbs, _+ℤ_};
+ghost use Rattle.std.specs.Options.{Cases};
 ghost use Rattle.quantity.specs.Refusals.{Answers};
 ghost use Rattle.quantity.specs.Series.{powerLimit, total as totalOf};
 ghost use Rattle.activation.specs.Requests.{sampled, requestRefusal, requestOf, directionOf};
@@ -13,6 +14,7 @@ use quantity::POWER_LIMIT;
 use quantity::Power;
 use quantity::Refusal;
 use quantity::all_within;
+use quantity::is_within;
 use quantity::total;
 
 /// The samples of a minute in one direction: one each two seconds.
@@ -34,6 +36,16 @@ impl ActivationRequest {
             return Err(Refusal::OutOfRange);
         }
         Ok(mean(upward, downward))
+    }
+
+    /// The request of so much power, or none beyond its limit.
+    pub fn new(power: Power) -> Option<ActivationRequest>
+        ensures { λ r. ⌜ Cases r (natAbs (power .units) ≤ 10 ^ 14 → ⊥) (λ q. q .power ≡ power) ⌝ }
+    {
+        if !is_within(power.units(), -POWER_LIMIT, POWER_LIMIT) {
+            return None;
+        }
+        Some(ActivationRequest { power })
     }
 
     pub fn power(self) -> Power

@@ -2,6 +2,7 @@
 
 use super::*;
 use quantity::POWER_LIMIT;
+use quantity::Power;
 use quantity::Refusal;
 use quantity::RefusalDebug;
 use quantity::RefusalPartialEq;
@@ -43,6 +44,17 @@ fn samples_reach_their_limits_and_no_further() -> Result<(), Fail> {
     }
     for sample in [1, -POWER_LIMIT - 1, i64::MAX, i64::MIN] {
         check_eq(asked(&none, &one(sample)), Err(Refusal::OutOfRange))?;
+    }
+    Ok(())
+}
+
+#[test]
+fn a_request_lies_within_its_limit() -> Result<(), Fail> {
+    for units in [0, 1, -1, POWER_LIMIT, -POWER_LIMIT] {
+        check(ActivationRequest::new(Power::from_units(units)).is_some())?;
+    }
+    for units in [POWER_LIMIT + 1, -POWER_LIMIT - 1, i64::MAX, i64::MIN] {
+        check(ActivationRequest::new(Power::from_units(units)).is_none())?;
     }
     Ok(())
 }
