@@ -1,11 +1,10 @@
-//! The accounts of a quarter hour.
+//! A quarter hour, minute by minute.
 
-ghost use mathlib.Core.Path.{_≡_};
-use account::Account;
+use crate::replay::Replay;
+use crate::replay::total;
 use activation::ActivationRequest;
 use activation::Direction;
 use bands::Allowance;
-use bands::BandRule;
 use bands::Floor;
 use bands::FloorRule;
 use bands::ToleranceBand;
@@ -39,14 +38,25 @@ pub(crate) struct Judged {
     pub(crate) distance: Power,
 }
 
-/// The window of the newest minute, and the three accounts.
-#[derive(Drop)]
+/// The window of the newest minute, and the minutes that each account judges.
+#[derive(Clone, Copy)]
 pub(crate) struct Judge {
-    allowance: Allowance,
+    terms: Terms,
     window: [ActivationRequest; WINDOW],
-    offered: Account<Floor>,
-    upward: Account<ToleranceBand>,
-    downward: Account<ToleranceBand>,
+    offered: Replay<Floor>,
+    upward: Replay<ToleranceBand>,
+    downward: Replay<ToleranceBand>,
+}
+
+/// The totals of a quarter hour.
+#[derive(Clone, Copy)]
+pub(crate) struct Totals {
+    /// What the offered reserve lacked.
+    pub(crate) missing: Power,
+    /// The deviation in upward minutes.
+    pub(crate) upward: Power,
+    /// The deviation in downward minutes.
+    pub(crate) downward: Power,
 }
 
 /// The window one minute on: the oldest request leaves it.
@@ -79,11 +89,11 @@ impl Judge {
         ];
         let band = ToleranceBand::over(&window, terms.allowance);
         Judge {
-            allowance: terms.allowance,
+            terms,
             window,
-            offered: Account::new(terms.floor),
-            upward: Account::new(band),
-            downward: Account::new(band),
+            offered: Replay::new(terms.floor),
+            upward: Replay::new(band),
+            downward: Replay::new(band),
         }
     }
 
@@ -94,12 +104,13 @@ impl Judge {
         given: Given,
     ) -> Result<Judged, Refusal> {
         let window = moved_on(&self.window, request);
-        let band = ToleranceBand::over(&window, self.allowance);
+        let band = ToleranceBand::over(&window, self.terms.allowance);
+        distance(&self.terms.floor, given.offered)?;
         let distance = distance(&band, given.realised)?;
-        self.offered.add(given.offered)?;
+        self.offered.push(self.terms.floor, given.offered);
         match request.direction() {
-            Direction::Upward => judge_by(&mut self.upward, band, given.realised)?,
-            Direction::Downward => judge_by(&mut self.downward, band, given.realised)?,
+            Direction::Upward => self.upward.push(band, given.realised),
+            Direction::Downward => self.downward.push(band, given.realised),
             Direction::Neither => {}
         }
         self.window = window;
@@ -111,34 +122,17 @@ impl Judge {
         })
     }
 
-    /// How much offered reserve was missing, minute by minute.
-    pub(crate) fn missing(&self) -> Power
-        ensures { λ r. ⌜ r ≡ now (self .entry) .offered .total ⌝ }
-    {
-        self.offered.total()
+    /// The totals of the minutes so far, each through an account of its own.
+    pub(crate) fn totals(&self) -> Totals {
+        let floor = self.terms.floor;
+        let band = ToleranceBand::over(&self.window, self.terms.allowance);
+        let mut offered = self.offered;
+        let mut upward = self.upward;
+        let mut downward = self.downward;
+        Totals {
+            missing: total(&mut offered, floor),
+            upward: total(&mut upward, band),
+            downward: total(&mut downward, band),
+        }
     }
-
-    /// The deviation in upward minutes.
-    pub(crate) fn upward(&self) -> Power
-        ensures { λ r. ⌜ r ≡ now (self .entry) .upward .total ⌝ }
-    {
-        self.upward.total()
-    }
-
-    /// The deviation in downward minutes.
-    pub(crate) fn downward(&self) -> Power
-        ensures { λ r. ⌜ r ≡ now (self .entry) .downward .total ⌝ }
-    {
-        self.downward.total()
-    }
-}
-
-/// Adds a figure under a rule of its own.
-fn judge_by<R: BandRule + Drop>(
-    account: &mut Account<R>,
-    rule: R,
-    figure: Power,
-) -> Result<(), Refusal> {
-    account.replace(rule);
-    account.add(figure)
 }

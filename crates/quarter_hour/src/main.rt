@@ -7,6 +7,7 @@
 mod input;
 mod judge;
 mod output;
+mod replay;
 
 use input::Input;
 use judge::Judge;
@@ -31,9 +32,10 @@ fn run(rt: &LibcRuntime) -> Result<(), AnyError> {
         };
         write_minute(&mut out, minute, &judged)?;
     }
-    write_total(&mut out, b"M ", judge.missing())?;
-    write_total(&mut out, b"D+", judge.upward())?;
-    write_total(&mut out, b"D-", judge.downward())?;
+    let totals = judge.totals();
+    write_total(&mut out, b"M ", totals.missing)?;
+    write_total(&mut out, b"D+", totals.upward)?;
+    write_total(&mut out, b"D-", totals.downward)?;
     Ok(())
 }
 
