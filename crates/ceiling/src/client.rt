@@ -18,7 +18,7 @@ pub struct Repeater {
     figure: Power,
     planned: u32,
     left: u32,
-    refused: u32,
+    refusals: u32,
 }
 
 impl Repeater {
@@ -29,15 +29,15 @@ impl Repeater {
             figure,
             planned,
             left: planned,
-            refused: 0,
+            refusals: 0,
         }
     }
 
     /// How many additions were refused.
     pub fn refused(&self) -> u32
-        ensures { λ r. ⌜ r ≡ now (self .entry) .refused ⌝ }
+        ensures { λ r. ⌜ r ≡ now (self .entry) .refusals ⌝ }
     {
-        self.refused
+        self.refusals
     }
 }
 
@@ -56,7 +56,8 @@ pub impl AccountClient<Ceiling> for Repeater as RepeaterClient {
 
     fn note(&mut self, answer: Answer) {
         if let Answer::Refused(_) = answer {
-            self.refused = self.refused.saturating_add(1);
+            let refusals = &mut self.refusals;
+            *refusals = refusals.saturating_add(1);
         }
     }
 }
