@@ -4,18 +4,16 @@ use mathlib.Core.List.{List, _++_}
 use Prim.Native.Nat.{ℕ, zero, suc, _+_, _-_, _^_, _≤_, _<_}
 use native.Mathlib.Nat.{add-zero}
 use native.Mathlib.Omega.{arith}
-use borrow.Rule.Slice.PartMut.{putMid, postOf}
 use lib.Dec.{ltb}
 use lib.ListN.{length, getD, take, drop, replicate}
 use Rattle.std.specs.declared.option.Option.{Option}
 use Rattle.std.specs.declared.option.Option.the-variants.{None}
 use Rattle.std.specs.Written.{decimal}
 use Rattle.std.proofs.shelf.Decimals.{length-decimal-le}
-use Rattle.std.proofs.shelf.Lists.{append-assoc, drop-at, drop-drop, getD-drop, length-append, length-drop, length-replicate, length-take-le, replicate-more, take-append-drop, take-at, take-more}
+use Rattle.std.proofs.shelf.Lists.{getD-drop, length-append, length-drop, length-replicate, replicate-more, take-append-drop, take-more}
 use Rattle.std.proofs.shelf.Ways.{tells}
-use Rattle.count_text.specs.Columns.{atRight, countText, CountIn, lastDigits, writeRefusal, Reads}
+use Rattle.count_text.specs.Columns.{atRight, countText, CountIn, writeRefusal, Reads}
 use Rattle.count_text.proofs.Decimals.{pow-ten-le, lt-by-length}
-use Rattle.count_text.proofs.LastDigits.{decimal-is-last}
 
 pub length-atRight : (w : ℕ) (text : List ℕ) → length text ≤ w → length (atRight w text) ≡ w
 length-atRight w text h = length-append (replicate {A = ℕ} (w - length text) 32) text ∙ (let r = length-replicate {A = ℕ} (w - length text) 32 in omega arith)
@@ -23,24 +21,6 @@ length-atRight w text h = length-append (replicate {A = ℕ} (w - length text) 3
 -- ---- writing
 pub not-refused : (a b columns room : ℕ) → a < b → columns ≤ room → writeRefusal (ltb a b) columns room ≡ None
 not-refused a b columns room h k = grind (arith, tells)
-
--- blanks over the first columns, then digits over the others
-pub count-written :
-    (w v d n : ℕ) (old front digits : List ℕ) → w ≡ v → n < 2 ^ 64 → d ≡ length (decimal n) → d ≤ w → w ≤ length old → front ≡ replicate (length (take (w - d - 0) old)) 32 →
-    digits ≡ lastDigits (length (take (w - (w - d)) (drop (w - d) (front ++ postOf 0 (w - d - 0) old)))) n →
-    putMid (w - d) (w - (w - d)) (front ++ postOf 0 (w - d - 0) old) digits ≡ countText v n ++ drop (length (countText v n)) old
-count-written w v d n old front digits same small is fits room f g =
-    let z : w - d - 0 ≡ w - d = omega arith in
-    let e : w - (w - d) ≡ d = omega arith in
-    let f′ : front ≡ replicate (w - d) 32 = rw (z, length-take-le (w - d) old (omega arith)) at f in
-    let l : length front ≡ w - d = ap length f′ ∙ length-replicate (w - d) 32 in
-    let t = take-at front (drop (w - d) old) (w - d) l in
-    let a = drop-at front (drop (w - d) old) (w - d) l in
-    let k : length (take d (drop (w - d) old)) ≡ d = length-take-le d (drop (w - d) old) (omega (arith, length-drop (w - d) old)) in
-    let g′ : digits ≡ decimal n = rw (z, e, a, k, is) at g ∙ sym (decimal-is-last n small) in
-    let r : w - d + d ≡ w = omega arith in
-    let s = length-atRight w (decimal n) (omega arith) in
-    rw (← same, z, e, t, a, g′, f′, s, drop-drop, r, ← is, append-assoc)
 
 -- ---- reading
 pub one-more-blank : (text : List ℕ) (i : ℕ) → i < length text → getD text i 0 ≡ 32 → take i text ≡ replicate i 32 → take (i + 1) text ≡ replicate (i + 1) 32

@@ -2,7 +2,7 @@
 use mathlib.Core.Path.{_≡_, refl, sym, ap, _∙_}
 use mathlib.Core.List.{List, [], _∷_, _++_}
 use Prim.Native.Nat.{ℕ, zero, suc, _+_, _-_, _/_, _%_, _^_, _≤_, _<_}
-use native.Mathlib.Nat.{pow-suc}
+use native.Mathlib.Nat.{add-suc, pow-suc}
 use native.Mathlib.Numerals.{add-one}
 use native.Mathlib.Omega.{arith}
 use lib.ListN.{length, getD, set, take, drop}
@@ -12,7 +12,7 @@ use Rattle.std.specs.Text.{digitValue}
 use Rattle.std.specs.Written.{decimal}
 use Rattle.std.proofs.shelf.Decimals.{decimal-reads}
 use Rattle.std.proofs.shelf.Digits.{digits-push, value-push}
-use Rattle.std.proofs.shelf.Lists.{append-assoc, append-nil, drop-all, drop-set, length-push, take-all}
+use Rattle.std.proofs.shelf.Lists.{append-assoc, append-nil, drop-all, drop-append-le, drop-set, length-push, take-all}
 use Rattle.std.proofs.shelf.Numerals.{digit-at}
 use Rattle.std.proofs.shelf.Ways.{tells}
 use Rattle.count_text.specs.Columns.{lastDigits}
@@ -84,3 +84,16 @@ digits-are-last ds all = rw (take-all (length ds) ds (omega arith)) at (front-is
 
 pub decimal-is-last : (n : ℕ) → n < 2 ^ 64 → decimal n ≡ lastDigits (length (decimal n)) n
 decimal-is-last n h = let d = decimal-reads n h in rw (d .1) at (digits-are-last (decimal n) (d .0 .1))
+
+-- ---- with zeros before it, a number ends in its digits
+drop-last : (k d n : ℕ) → drop k (lastDigits (k + d) n) ≡ lastDigits d n
+unfolding lastDigits
+drop-last k zero n = drop-all k (lastDigits (k + 0) n) (omega (arith, length-last (k + 0) n))
+drop-last k (suc d) n =
+    let a = drop-append-le k (lastDigits (k + d) (n / 10)) ((48 + n % 10) ∷ []) (omega (arith, length-last (k + d) (n / 10))) in
+    rw add-suc (a ∙ ap (λ (xs : List ℕ). xs ++ (48 + n % 10) ∷ []) (drop-last k d (n / 10)))
+
+pub decimal-ends : (w n : ℕ) → n < 2 ^ 64 → length (decimal n) ≤ w → drop (w - length (decimal n)) (lastDigits w n) ≡ decimal n
+decimal-ends w n small le =
+    let e : w - length (decimal n) + length (decimal n) ≡ w = omega arith in
+    (rw e at (drop-last (w - length (decimal n)) (length (decimal n)) n)) ∙ sym (decimal-is-last n small)

@@ -1,7 +1,7 @@
 -- What is read is what was written.
 use mathlib.Core.Path.{_≡_, refl, sym, ap, _∙_}
 use mathlib.Core.List.{List}
-use Prim.Native.Nat.{ℕ, _+_, _-_, _*_, _^_, _≤_, _<_}
+use Prim.Native.Nat.{ℕ, _+_, _*_, _^_, _≤_, _<_}
 use native.Mathlib.Omega.{arith}
 use lib.ListN.{length, getD, take}
 use Rattle.std.specs.declared.option.Option.{Option}
@@ -59,9 +59,9 @@ module _ (ds : List ℕ) (i n : ℕ) (here : i < length ds) (all : Digits 10 (ta
       let v : value 10 (take i ds) < 10 ^ i = rw l at (value-lt 10 (take i ds) all) in
       omega (arith, pow-ten-le i 17 (omega arith))
 
-  pub digit-read : 48 ≤ getD ds i 0 → getD ds i 0 ≤ 57 → Digits 10 (take (i + 1) ds) × (n * 10 + (getD ds i 0 - 48) ≡ value 10 (take (i + 1) ds))
-  digit-read low high =
-      let d = digitValue-is (getD ds i 0) low high in
+  pub digit-read : (d : ℕ) → d < 10 → getD ds i 0 ≡ 48 + d → Digits 10 (take (i + 1) ds) × (n * 10 + d ≡ value 10 (take (i + 1) ds))
+  digit-read d small byte =
+      let v = digitValue-is (getD ds i 0) (omega arith) (omega arith) in
       (digits-more 10 ds i here all (omega arith), omega (arith, value-more 10 ds i here))
 
 -- ---- digits after zeros

@@ -1,7 +1,7 @@
 //! Counts, written and read.
 
 ghost use mathlib.Core.Path.{_≡_};
-ghost use Prim.Native.Nat.{ℕ};
+ghost use Prim.Native.Nat.{ℕ, _^_, _<_};
 ghost use lib.ListN.{length};
 ghost use Rattle.std.specs.declared.result.Result.the-variants.{Ok};
 ghost use Rattle.count_text.specs.Columns.{countText, CountIn, countRefusal, Writes, bytesAfter, RefusesBy};
@@ -11,6 +11,16 @@ use crate::digits::read_plain;
 use crate::digits::write_fixed;
 use crate::width::Width;
 use quantity::Refusal;
+
+/// Writes a count over the whole of `columns`: with zeros before it, and then blanks in their place.
+fn put_count(n: u64, columns: &mut [u8])
+    requires { ⌜ 0 < length (now columns) ⌝ ∗ ⌜ n < 10 ^ length (now columns) ⌝ }
+    ensures { λ _. ⌜ now (columns .exit) ≡ countText (length (now (columns .entry))) n ⌝ }
+{
+    write_fixed(n, columns);
+    let start = columns.len() - digit_count(n);
+    columns[..start].fill(b' ');
+}
 
 /// Writes a count over the first columns of `out`.
 /// Refuses a count with more digits than columns (11), then a buffer with fewer bytes than columns (16); a refusal leaves every byte as it was.
@@ -25,9 +35,7 @@ pub fn write_count(n: u64, width: Width, out: &mut [u8]) -> Result<(), Refusal>
     if out.len() < columns {
         return Err(Refusal::BufferTooShort);
     }
-    let start = columns - digit_count(n);
-    out[0..start].fill(b' ');
-    write_fixed(n, &mut out[start..columns]);
+    put_count(n, &mut out[..columns]);
     Ok(())
 }
 
@@ -38,7 +46,7 @@ pub fn read_count(text: &[u8], width: Width) -> Result<u64, Refusal>
     ensures read_is_written { λ r. ⌜ ((n : ℕ) → r ≡ Ok n → CountIn (width .columns) n (now (text .entry))) ⌝ }
     ensures refused { λ r. ⌜ RefusesBy 17 r ⌝ }
 {
-    if text.len() != width.columns() {
+    if !width.is_filled_by(text) {
         return Err(Refusal::NotInForm);
     }
     read_plain(&text[blanks(text)..]).ok_or(Refusal::NotInForm)

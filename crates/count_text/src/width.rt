@@ -3,12 +3,13 @@
 ghost use mathlib.Core.Logic.{_⊎_};
 ghost use mathlib.Core.Path.{_≡_};
 ghost use Prim.Native.Nat.{_^_, _<_, _≤_};
+ghost use lib.ListN.{length};
 ghost use Rattle.std.specs.Options.{Cases};
 ghost use Rattle.std.specs.Orderings.{Decides};
 use crate::digits::digit_count;
 
 /// The most columns of a count: an `i64` holds every number of 18 digits, and not every one of 19.
-pub(crate) const WIDEST: usize = 18;
+const WIDEST: usize = 18;
 
 /// The columns of a count: 1 to 18.
 #[derive(Clone, Copy)]
@@ -51,5 +52,12 @@ impl Width {
         ensures { λ r. ⌜ Decides r (n < 10 ^ (self .columns)) ⌝ }
     {
         digit_count(n) <= self.columns
+    }
+
+    /// Whether a text has as many bytes as there are columns.
+    pub(crate) fn is_filled_by(self, text: &[u8]) -> bool
+        ensures { λ r. ⌜ Decides r (length (now (text .entry)) ≡ self .columns) ⌝ }
+    {
+        text.len() == self.columns
     }
 }

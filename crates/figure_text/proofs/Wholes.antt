@@ -10,7 +10,7 @@ use lib.ListN.{length, getD, set, take, drop, replicate}
 use lib.Signed.{ltZ}
 use Rattle.std.specs.Written.{decimal}
 use Rattle.std.proofs.shelf.Decimals.{decimal-some, length-decimal-le}
-use Rattle.std.proofs.shelf.Lists.{append-assoc, drop-at, drop-drop, drop-more, getD-append-left, length-append, length-drop, length-replicate, length-take-le, replicate-more, set-at, take-at}
+use Rattle.std.proofs.shelf.Lists.{append-assoc, append-nil, drop-all, drop-at, drop-more, getD-append-left, length-append, length-drop, length-replicate, length-take-le, replicate-more, set-at, take-at}
 use Rattle.std.proofs.shelf.Tests.{false≢true, ltb-true}
 use Rattle.count_text.specs.Columns.{atRight, countText, lastDigits, countRefusal, bytesAfter}
 use Rattle.count_text.proofs.Decimals.{first-is-digit}
@@ -49,18 +49,21 @@ module _
         let l = length-atRight 9 (decimal n) (omega (arith, digits-le)) in
         rw (e, l) at written
 
-    -- before the minus of a negative figure
-    module _ (k : ℕ) (le : k ≤ length new) (front : take k new ≡ replicate k 32) (next : getD new k 0 ≡ 32 → ⊥) where
-      blanks-are : k ≡ 9 - length (decimal n)
-      blanks-are =
+    -- a column is left for the minus of a negative figure
+    pub first-is-blank : getD new 0 0 ≡ 32
+    first-is-blank = let k : 9 - length (decimal n) ≡ suc (8 - length (decimal n)) = omega (arith, digits-le) in rw (count-written-first, k)
+
+    module _ (k : ℕ) (lt : k < length new) (front : take (k + 1) new ≡ replicate (k + 1) 32) (next : getD new (k + 1) 0 ≡ 32 → ⊥) where
+      last-blank-is : k ≡ 9 - length (decimal n) - 1
+      last-blank-is =
           let d = getD-append-left (decimal n) (drop 9 old) 0 0 (decimal-some n (omega arith)) in
-          same-blanks new k le front next (9 - length (decimal n)) (decimal n ++ drop 9 old) (λ e. omega (arith, first-is-digit n (omega arith))) (count-written-first ∙ append-assoc _ (decimal n) (drop 9 old))
+          let b =
+          same-blanks new (k + 1) (omega arith) front next (9 - length (decimal n)) (decimal n ++ drop 9 old) (λ e. omega (arith, first-is-digit n (omega arith)))
+          (count-written-first ∙ append-assoc _ (decimal n) (drop 9 old)) in
+          omega arith
 
-      pub blank-left : 1 ≤ k
-      blank-left = omega (arith, blanks-are, digits-le)
-
-      pub negative-whole-written : (x : ℤ) → ltZ x (pos 0) ≡ true → n ≡ natAbs x / 10 ^ 10 → set new (k - 1) 45 ≡ wholeText x ++ drop 9 old
-      negative-whole-written x e is = rw (count-written-first, blanks-are, mark-minus x e, ← is) (minus-over-blank 9 (decimal n) (drop 9 old) (omega (arith, digits-le)))
+      pub negative-whole-written : (x : ℤ) → ltZ x (pos 0) ≡ true → n ≡ natAbs x / 10 ^ 10 → set new k 45 ≡ wholeText x ++ drop 9 old
+      negative-whole-written x e is = rw (count-written-first, last-blank-is, mark-minus x e, ← is) (minus-over-blank 9 (decimal n) (drop 9 old) (omega (arith, digits-le)))
 
     pub positive-whole-written : (x : ℤ) → ltZ x (pos 0) ≡ false → n ≡ natAbs x / 10 ^ 10 → new ≡ wholeText x ++ drop 9 old
     positive-whole-written x e is = rw (mark-none x e, ← is) count-written-first
@@ -94,7 +97,8 @@ module _ (x : ℤ) (small : natAbs x < 10 ^ 18) where
   pub length-figure : length (figureText x) ≡ 20
   length-figure = ap length figure-is-parts ∙ length-append (wholeText x) (46 ∷ lastDigits 10 (natAbs x)) ∙ (let l = length-last 10 (natAbs x) in omega (arith, length-whole))
 
-  module _ (old new digits : List ℕ) (room : 20 ≤ length old) (whole : new ≡ wholeText x ++ drop 9 old) where
+  -- over the whole of the columns
+  module _ (old new digits : List ℕ) (long : length old ≡ 20) (whole : new ≡ wholeText x ++ drop 9 old) where
     point-written : set new 9 46 ≡ (wholeText x ++ 46 ∷ []) ++ drop 10 old
     point-written =
         let d : drop 9 old ≡ getD old 9 0 ∷ drop 10 old = drop-more old 9 0 (omega arith) in
@@ -103,10 +107,18 @@ module _ (x : ℤ) (small : natAbs x < 10 ^ 18) where
     length-pointed : length (wholeText x ++ 46 ∷ []) ≡ 10
     length-pointed = length-append (wholeText x) (46 ∷ []) ∙ ap (λ (k : ℕ). k + 1) length-whole
 
-    pub figure-written : (s : ℕ) → s ≡ natAbs x → digits ≡ lastDigits (length (take 10 (drop 10 (set new 9 46)))) s → putMid 10 10 (set new 9 46) digits ≡ figureText x ++ drop (length (figureText x)) old
+    columns-left : length (set new 9 46) - 10 ≡ 10
+    columns-left =
+        let e = ap length point-written ∙ length-append (wholeText x ++ 46 ∷ []) (drop 10 old) in
+        omega (arith, length-pointed, length-drop 10 old)
+
+    pub figure-written :
+        (s : ℕ) → s ≡ natAbs x → digits ≡ lastDigits (length (take (length (set new 9 46) - 10) (drop 10 (set new 9 46)))) s →
+        putMid 10 (length (set new 9 46) - 10) (set new 9 46) digits ≡ figureText x
     figure-written s is written =
         let t = take-at (wholeText x ++ 46 ∷ []) (drop 10 old) 10 length-pointed in
         let u = drop-at (wholeText x ++ 46 ∷ []) (drop 10 old) 10 length-pointed in
         let k : length (take 10 (drop 10 old)) ≡ 10 = length-take-le 10 (drop 10 old) (omega (arith, length-drop 10 old)) in
-        let w : digits ≡ lastDigits 10 (natAbs x) = rw (point-written, u, k, is) at written in
-        rw (length-figure, point-written, t, u, w, figure-is-parts, drop-drop) (simp append-assoc)
+        let w : digits ≡ lastDigits 10 (natAbs x) = rw (columns-left, point-written, u, k, is) at written in
+        let z : drop 10 (drop 10 old) ≡ [] = drop-all 10 (drop 10 old) (omega (arith, length-drop 10 old)) in
+        rw (columns-left, point-written, t, u, w, figure-is-parts, z, append-nil) (simp append-assoc)

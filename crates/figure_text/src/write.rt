@@ -2,9 +2,9 @@
 
 ghost use mathlib.Core.Path.{_≡_};
 ghost use mathlib.Core.List.{_++_};
-ghost use Prim.Native.Nat.{_^_, _<_, _≤_};
+ghost use Prim.Native.Nat.{_+_, _^_, _<_, _≤_};
 ghost use lib.IntN.{natAbs};
-ghost use lib.ListN.{length, drop};
+ghost use lib.ListN.{length, getD, take, drop, replicate};
 ghost use Rattle.std.specs.Orderings.{Decides};
 ghost use Rattle.std.specs.Results.{Cases};
 ghost use Rattle.count_text.specs.Columns.{Writes, bytesAfter};
@@ -26,6 +26,16 @@ pub fn is_writable(units: i64) -> bool
     units.unsigned_abs() < WHOLE_LIMIT * UNITS_PER_WHOLE
 }
 
+/// The index of the last of the blanks that a text begins with.
+fn last_blank(text: &[u8]) -> usize
+    requires { ⌜ getD (now text) 0 0 ≡ 32 ⌝ }
+    ensures within { λ r. ⌜ r < length (now (text .entry)) ⌝ }
+    ensures front { λ r. ⌜ take (r + 1) (now (text .entry)) ≡ replicate (r + 1) 32 ⌝ }
+    ensures next { λ r. ⌜ (getD (now (text .entry)) (r + 1) 0 ≡ 32 → ⊥) ⌝ }
+{
+    blanks(text) - 1
+}
+
 /// Writes what stands before the point over the first columns of `out`.
 /// Refuses nothing, since eight digits at most fit nine columns and leave a blank for the minus.
 fn put_whole(units: i64, out: &mut [u8]) -> Result<(), Refusal>
@@ -34,8 +44,20 @@ fn put_whole(units: i64, out: &mut [u8]) -> Result<(), Refusal>
 {
     write_count(units.unsigned_abs() / UNITS_PER_WHOLE, Width::NINE, out)?;
     if units < 0 {
-        out[blanks(out) - 1] = b'-';
+        out[last_blank(out)] = b'-';
     }
+    Ok(())
+}
+
+/// Writes a figure over the whole of its columns.
+/// Refuses nothing, since they hold it.
+fn put_figure(units: i64, columns: &mut [u8]) -> Result<(), Refusal>
+    requires { ⌜ natAbs units < 10 ^ 18 ⌝ ∗ ⌜ length (now columns) ≡ 20 ⌝ }
+    ensures { λ r. ⌜ Cases r (λ _. now (columns .exit) ≡ figureText units) (λ _. ⊥) ⌝ }
+{
+    put_whole(units, columns)?;
+    columns[POINT] = b'.';
+    write_fixed(units.unsigned_abs(), &mut columns[POINT + 1..]);
     Ok(())
 }
 
@@ -51,8 +73,5 @@ pub fn write_figure(units: i64, out: &mut [u8]) -> Result<(), Refusal>
     if out.len() < COLUMNS {
         return Err(Refusal::BufferTooShort);
     }
-    put_whole(units, out)?;
-    out[POINT] = b'.';
-    write_fixed(units.unsigned_abs(), &mut out[POINT + 1..COLUMNS]);
-    Ok(())
+    put_figure(units, &mut out[..COLUMNS])
 }

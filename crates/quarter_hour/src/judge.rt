@@ -1,5 +1,8 @@
 //! A quarter hour, minute by minute.
 
+ghost use mathlib.Core.List.{[], _∷_, _++_};
+ghost use mathlib.Core.Path.{_≡_};
+ghost use lib.ListN.{drop as past};
 use crate::replay::Replay;
 use crate::replay::total;
 use activation::ActivationRequest;
@@ -63,7 +66,9 @@ pub(crate) struct Totals {
 fn moved_on(
     window: &[ActivationRequest; WINDOW],
     newest: ActivationRequest,
-) -> [ActivationRequest; WINDOW] {
+) -> [ActivationRequest; WINDOW]
+    ensures { λ r. ⌜ r ≡ past 1 (now (window .entry)) ++ newest ∷ [] ⌝ }
+{
     [
         window[1],
         window[2],

@@ -4,16 +4,17 @@ use native.Mathlib.Omega.{arith}
 use Rattle.std.specs.declared.option.Option.the-variants.{None}
 use Rattle.std.specs.Written.{decimal}
 use Rattle.std.proofs.shelf.Lists.{take-rest}
+use Rattle.std.proofs.shelf.Tests.{false≢true}
 use Rattle.count_text.specs.Columns.{CountIn}
 use Rattle.count_text.proofs.Columns.{reads-atRight, reads-count, length-count}
 use Rattle.count_text.proofs.Decimals.{first-is-digit}
 use Rattle.count_text.proofs.Readers.{reads-none, ok-where-written, written-where-ok, else-refused}
 use Rattle.count_text.proofs.count.read_count.Needs as need
 
-pub returns-then-text-columns : need.returns-then-text-columns
-returns-then-text-columns c =
+pub returns-then-not-is-filled-by : need.returns-then-not-is-filled-by
+returns-then-not-is-filled-by c =
     let w = c .args .width .columns in
-    let reads = reads-none (CountIn w) (c .args .text .now) (λ n h. omega (arith, length-count w n (c .args .text .now) (omega arith) (omega arith) h)) in
+    let reads = reads-none (CountIn w) (c .args .text .now) (λ n h. false≢true (c .if-not-is-filled-by .ensures tt .1 (length-count w n (c .args .text .now) (omega arith) (omega arith) h))) in
     record { written-is-read = ok-where-written (CountIn w) _ None _ refl reads; read-is-written = written-where-ok (CountIn w) _ None _ refl reads; refused = refl }
 
 pub returns : need.returns

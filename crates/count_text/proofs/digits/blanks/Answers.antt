@@ -6,10 +6,7 @@ use Rattle.count_text.proofs.Columns.{one-more-blank}
 use Rattle.count_text.proofs.digits.blanks.Needs as need
 
 pub loop-i-again : need.loop-i-again
-loop-i-again c = one-more-blank _ _ (c .loop-i-test .taken) (c .if-byte-ne32 .left) (c .loop-i .inv)
-
-pub returns-then-byte-ne32 : need.returns-then-byte-ne32
-returns-then-byte-ne32 c = record { within = omega arith; front = c .loop-i .inv; next = c .if-byte-ne32 .taken }
+loop-i-again c = one-more-blank _ _ (c .loop-i-test .taken) (c .is-blank .ensures .0 (c .if-not-is-blank .left)) (c .loop-i .inv)
 
 pub returns : need.returns
 returns c =

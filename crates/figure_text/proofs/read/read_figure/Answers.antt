@@ -1,10 +1,11 @@
-use mathlib.Core.Path.{refl, ap}
+use mathlib.Core.Path.{refl, ap, _∙_}
 use Prim.Native.Nat.{_^_, _<_}
 use native.Mathlib.Omega.{arith}
 use lib.IntN.{natAbs}
 use lib.ListN.{length}
 use Rattle.std.specs.declared.option.Option.the-variants.{None}
 use Rattle.std.proofs.shelf.Lists.{take-rest}
+use Rattle.std.proofs.shelf.Tests.{false≢true}
 use Rattle.count_text.proofs.Columns.{reads-atRight}
 use Rattle.count_text.proofs.Readers.{reads-none, ok-where-written, written-where-ok, else-refused}
 use Rattle.figure_text.specs.Figures.{signedText, FigureIn}
@@ -12,9 +13,9 @@ use Rattle.figure_text.proofs.Signs.{signed-begins-with-no-blank}
 use Rattle.figure_text.proofs.Wholes.{length-figure}
 use Rattle.figure_text.proofs.read.read_figure.Needs as need
 
-pub returns-then-text-ne-COLUMNS : need.returns-then-text-ne-COLUMNS
-returns-then-text-ne-COLUMNS c =
-    let reads = reads-none FigureIn (c .args .text .now) (λ x h. omega (arith, ap length (h .1), length-figure x (h .0))) in
+pub returns-then-not-fills-columns : need.returns-then-not-fills-columns
+returns-then-not-fills-columns c =
+    let reads = reads-none FigureIn (c .args .text .now) (λ x h. false≢true (c .if-not-fills-columns .ensures tt .1 (ap length (h .1) ∙ length-figure x (h .0)))) in
     record { written-is-read = ok-where-written FigureIn _ None _ refl reads; read-is-written = written-where-ok FigureIn _ None _ refl reads; refused = refl }
 
 pub returns : need.returns

@@ -1,6 +1,7 @@
-use mathlib.Core.Path.{_≡_}
-use Prim.Native.Nat.{_+_, _<_}
+use mathlib.Core.Path.{_≡_, refl}
+use Prim.Native.Nat.{_+_, _^_, _<_}
 use native.Mathlib.Omega.{arith}
+use borrow.Author.Needs.{needs}
 use lib.ListN.{length}
 use Rattle.count_text.proofs.Readers.{reads-none}
 use Rattle.figure_text.specs.Figures.{SizeIn}
@@ -30,16 +31,17 @@ returns-in-Break-part c =
     rw (c .from-residual-in-Break-part .ensures)
     (no-size-without-part (c .args .text .now) (c .in-Continue-point .point) (long (need.at·returns-in-Break-part c .In-Continue-point)) (c .in-Break-part .ensures tt))
 
-pub returns-then-whole-ge-WHOLE-LIMIT : need.returns-then-whole-ge-WHOLE-LIMIT
-returns-then-whole-ge-WHOLE-LIMIT c =
-    no-size-of-nine-digits (c .args .text .now) (c .in-Continue-point .point) (long (need.at·returns-then-whole-ge-WHOLE-LIMIT c .In-Continue-point)) _ _
-    (c .in-Continue-whole .ensures tt) (c .in-Continue-part .ensures tt) (omega arith)
+pub returns-then-is-too-wide : need.returns-then-is-too-wide
+returns-then-is-too-wide c =
+    no-size-of-nine-digits (c .args .text .now) (c .in-Continue-point .point) (long (need.at·returns-then-is-too-wide c .In-Continue-point)) _ _ (c .in-Continue-whole .ensures tt)
+    (c .in-Continue-part .ensures tt) (c .if-is-too-wide .ensures tt .0 refl)
 
 pub add-result : need.add-result
 add-result c =
+    let small : c .in-Continue-whole .whole < 10 ^ 8 = search needs in
     omega (arith, part-lt (c .args .text .now) (c .in-Continue-point .point) (long (need.at·add-result c .In-Continue-point)) _ _ (c .in-Continue-whole .ensures tt) (c .in-Continue-part .ensures tt))
 
 pub returns : need.returns
 returns c =
     reads-size (c .args .text .now) (c .in-Continue-point .point) (long (need.at·returns c .In-Continue-point)) _ _ (c .in-Continue-whole .ensures tt) (c .in-Continue-part .ensures tt)
-    (omega arith) (c .if-dot-ne46 .left)
+    (search needs) (c .if-dot-ne46 .left)
