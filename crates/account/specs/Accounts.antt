@@ -9,7 +9,7 @@ use Rattle.std.specs.declared.option.Option.{Option}
 use Rattle.std.specs.declared.option.Option.the-variants.{Some, None}
 use Rattle.std.specs.shelf.Lists.{All}
 use Rattle.quantity.specs.Refusals.{unless, firstOf}
-use Rattle.bands.specs.Ends.{Ordered, distanceOf, figureRefusal}
+use Rattle.bands.specs.Ends.{Ordered, distanceOf, distanceRefusal}
 use Rattle.account.specs.Changes.{Judged}
 
 -- a figure judged by a band
@@ -18,7 +18,7 @@ judged low high x = record { low = low; high = high; figure = x }
 
 -- why an account that has taken so many figures refuses one more: 11 beyond the limit of figures, then 12 after fifteen
 abbrev pub addRefusal : ℤ → ℕ → Option ℕ
-addRefusal x taken = firstOf (figureRefusal x) (unless (ltb taken 15) 12)
+addRefusal x taken = firstOf (distanceRefusal x) (unless (ltb taken 15) 12)
 
 -- the sum of the distances
 abbrev pub distances : List Judged → ℕ

@@ -21,6 +21,7 @@ pub record Turn (R : Type 0) : Type 0 where
   pub call : Call R
   pub answer : Answer
 
+-- a turn of this call and this answer
 abbrev pub turn : {R : Type 0} → Call R → Answer → Turn R
 turn call answer = record { call = call; answer = answer }
 
@@ -85,10 +86,3 @@ pub record Tied {R : Type 0} (low high : R → Option ℤ) (first : R) (history 
   pub lawful : Lawful low high first history
   pub rule-is : rule ≡ ruleNow first history
   pub holds : Holds (taken low high first history) total count
-
--- a run that is under way: so many turns were had, and the client was told a history that is tied to the account
-pub record Underway {R C : Type 0} (low high : R → Option ℤ) (told : List (Turn R) → C → Type 0) (first : R) (turns : ℕ) (client : C) (rule : R) (total : ℤ) (count : ℕ) : Type 0 where
-  pub history : List (Turn R)
-  pub heard : told history client
-  pub tied : Tied low high first history rule total count
-  pub many : length history ≡ turns

@@ -53,5 +53,5 @@ abbrev pub figureLimit : ℤ
 figureLimit = pos (11 * 10 ^ 15)
 
 -- a larger one is refused with 11
-abbrev pub figureRefusal : ℤ → Option ℕ
-figureRefusal x = unless (within (negℤ figureLimit) figureLimit x) 11
+abbrev pub distanceRefusal : ℤ → Option ℕ
+distanceRefusal x = unless (within (negℤ figureLimit) figureLimit x) 11

@@ -6,7 +6,7 @@ ghost use lib.IntN.{pos, natAbs, _-ℤ_};
 ghost use lib.Signed.{ltZ};
 ghost use Rattle.std.specs.Results.{Cases};
 ghost use Rattle.quantity.specs.Refusals.{Answers};
-ghost use Rattle.bands.specs.Ends.{distanceOf, figureRefusal};
+ghost use Rattle.bands.specs.Ends.{distanceOf, distanceRefusal};
 use crate::rule::BandRule;
 use quantity::Power;
 use quantity::Refusal;
@@ -17,7 +17,7 @@ pub const FIGURE_LIMIT: i64 = 11_000_000_000_000_000;
 
 /// How far a figure lies outside a band, or zero. Refuses a figure beyond its limit (11).
 pub fn distance<R: BandRule>(rule: &R, figure: Power) -> Result<Power, Refusal>
-    ensures value { λ r. ⌜ Answers (figureRefusal (figure .units)) (λ d. d .units ≡ pos (distanceOf (lowest (now (rule .entry))) (highest (now (rule .entry))) (figure .units))) r ⌝ }
+    ensures value { λ r. ⌜ Answers (distanceRefusal (figure .units)) (λ d. d .units ≡ pos (distanceOf (lowest (now (rule .entry))) (highest (now (rule .entry))) (figure .units))) r ⌝ }
     ensures bound { λ r. ⌜ Cases r (λ d. natAbs (d .units) ≤ 13 * 10 ^ 15) (λ _. Unit {0}) ⌝ }
 {
     if !is_within(figure.units(), -FIGURE_LIMIT, FIGURE_LIMIT) {

@@ -75,8 +75,19 @@ impl ToleranceBand {
     {
         let low = lower_end(lowest_of(window), allowance);
         let high = upper_end(highest_of(window), allowance);
-        ToleranceBand { low, high }
+        between(low, high)
     }
+}
+
+/// The band between two ends.
+fn between(low: Power, high: Power) -> ToleranceBand
+    requires ordered { ⌜ low .units ≤ℤ high .units ⌝ }
+    requires low_limit { ⌜ natAbs (low .units) ≤ 2 * 10 ^ 15 ⌝ }
+    requires high_limit { ⌜ natAbs (high .units) ≤ 2 * 10 ^ 15 ⌝ }
+    ensures low { λ r. ⌜ r .low ≡ low ⌝ }
+    ensures high { λ r. ⌜ r .high ≡ high ⌝ }
+{
+    ToleranceBand { low, high }
 }
 
 pub impl BandRule for ToleranceBand as ToleranceBandRule {

@@ -1,5 +1,5 @@
 use mathlib.Core.List.{[]}
-use Rattle.account.specs.Histories.{Underway}
+use Rattle.account.proofs.Runs.{Underway}
 use Rattle.account.proofs.following.follow.Given as given
 
 abbrev pub Inv-loop : given.InvT-loop
