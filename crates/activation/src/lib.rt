@@ -1,4 +1,12 @@
 //! What the system operator asked of the pool, minute by minute.
+//!
+//! An [`ActivationRequest`] is the mean power of a minute, from thirty upward and thirty downward samples; its
+//! [`Direction`] says which way the minute was activated.
+//!
+//! ```text
+//! let request = ActivationRequest::of_samples(&upward, &downward)?;
+//! let way = request.direction();
+//! ```
 
 mod direction;
 mod request;

@@ -1,4 +1,13 @@
-//! Bands and what lies outside them.
+//! Bands and what lies outside them: the tolerance band around the requests of seven minutes, the floor under offered
+//! reserve, and any other rule that says where its ends are.
+//!
+//! Start from [`BandRule`], which every kind of band keeps, and [`distance`], which measures a figure against one.
+//! [`first_foremost`] is the one search, for every [`Order`].
+//!
+//! ```text
+//! let band = ToleranceBand::over(&window, Allowance::of_bids(upward, downward));
+//! let stray = distance(&band, realised)?;
+//! ```
 
 mod allowance;
 mod bid_sum;

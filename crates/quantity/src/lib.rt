@@ -1,4 +1,12 @@
-//! Quantities of balancing reserve: powers, energies, durations and shares, and the rounding that joins them.
+//! Quantities of balancing reserve: powers in MW, energies in MWh and shares in percent, each a whole number of units of
+//! 10^-10, and the one rounding by which they become one another.
+//!
+//! Start from [`Power`] and [`Energy`], which only a duration joins, [`round_quotient`], and [`Refusal`], which says why a
+//! call of any crate is refused.
+//!
+//! ```text
+//! let deviation = Power::from_units(30).lasting(Minutes::ONE);  // half a unit of energy, rounded to 1
+//! ```
 
 mod activated_energy;
 mod deviation_energy;
