@@ -1,9 +1,11 @@
 -- What a client that judges given minutes was told, and what it chose.
+use mathlib.Core.Bool.{cond}
 use mathlib.Core.List.{List, [], _∷_}
 use mathlib.Core.Path.{_≡_}
-use Prim.Native.Nat.{ℕ, suc, _/_, _%_}
+use Prim.Native.Nat.{ℕ, suc, _+_, _/_, _%_}
+use lib.Dec.{ltb}
 use lib.IntN.{pos}
-use lib.ListN.{length, getD}
+use lib.ListN.{length, getD, set}
 use Rattle.std.specs.declared.option.Option.{Option}
 use Rattle.std.specs.declared.option.Option.the-variants.{Some, None}
 use Rattle.account.specs.declared.client.Call.{Call}
@@ -11,6 +13,13 @@ use Rattle.account.specs.declared.client.Call.the-variants.{Replace, Add, Total
 use Rattle.account.specs.Histories.{Turn}
 use Rattle.quantity.specs.declared.power.Power.{Power}
 use Rattle.quarter_hour.specs.declared.replay.Replay.{Replay}
+
+-- one minute more, where there is room
+abbrev pub minutesAfter : {R : Type 0} → Replay R → R → Power → Replay R
+minutesAfter old rule figure =
+    cond (ltb (old .count) 15)
+    (record { rules = set (old .rules) (old .count) rule; figures = set (old .figures) (old .count) figure; count = old .count + 1; next = old .next })
+    old
 
 -- the call k, counted from 0: the rules and the figures of the minutes in turn
 abbrev pub Plans : {R : Type 0} → List R → List Power → ℕ → Call R → Type 0

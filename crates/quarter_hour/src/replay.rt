@@ -1,8 +1,9 @@
 //! Minutes that are judged one after another through the calls of an account.
 
 ghost use mathlib.Core.List.{[]};
+ghost use mathlib.Core.Path.{_≡_};
 ghost use Rattle.account.specs.Histories.{Followed};
-ghost use Rattle.quarter_hour.specs.Replays.{Heard, Chose};
+ghost use Rattle.quarter_hour.specs.Replays.{Heard, Chose, minutesAfter};
 use account::AccountClient;
 use account::Answer;
 use account::Call;
@@ -36,7 +37,9 @@ impl<R: Copy> Replay<R> {
     }
 
     /// One minute more, where there is room.
-    pub(crate) fn push(&mut self, rule: R, figure: Power) {
+    pub(crate) fn push(&mut self, rule: R, figure: Power)
+        ensures { λ _. ⌜ now (self .exit) ≡ minutesAfter (now (self .entry)) rule figure ⌝ }
+    {
         if self.count < MINUTES {
             self.rules[self.count] = rule;
             self.figures[self.count] = figure;
@@ -70,9 +73,11 @@ pub(crate) impl<R: Copy> AccountClient<R> for Replay<R> as ReplayClient {
 /// More turns than the minutes can take.
 const TURNS: u64 = 100;
 
-/// The total of a new account that judges the minutes: the least change that brings their figures inside their bands.
+/// The total of a new account that judges the minutes from the first: the least change that brings their figures inside
+/// their bands.
 pub(crate) fn total<R: BandRule + Copy + Drop>(minutes: &mut Replay<R>, rule: R) -> Power
-    ensures { λ r. ⌜ (Heard [] (now (minutes .entry)) → Followed (R·BandRule .lowest) (R·BandRule .highest) Heard Chose rule 100 (now (minutes .exit)) (r .units)) ⌝ }
+    ensures { λ r. ⌜ Followed (R·BandRule .lowest) (R·BandRule .highest) Heard Chose rule 100 (now (minutes .exit)) (r .units) ⌝ }
 {
+    minutes.next = 0;
     follow(minutes, rule, TURNS)
 }
