@@ -61,7 +61,7 @@ impl<R: BandRule + Drop> Account<R> {
     pub fn add(&mut self, figure: Power) -> Result<(), Refusal>
         ensures refused_first { Answers (add_refusal_of figure.units self.old.count) (λ _. Unit {0}) result }
         ensures rule { self.new.rule ≡ self.old.rule }
-        ensures holds { (js : List Judged) → Holds js self.old.total.units self.old.count → HoldsAfter (add_refusal_of figure.units self.old.count) (judged (lowest self.old.rule) (highest self.old.rule) figure.units) js self.new.total.units self.new.count }
+        ensures holds { (js : List Judged) → Holds js self.old.total.units self.old.count → HoldsAfter (add_refusal_of figure.units self.old.count) (judged (R.lowest self.old.rule) (R.highest self.old.rule) figure.units) js self.new.total.units self.new.count }
     {
         if let Some(why) = add_refusal(figure, self.count) {
             return Err(why);
@@ -75,7 +75,7 @@ impl<R: BandRule + Drop> Account<R> {
         requires { add_refusal_of figure.units self.old.count ≡ None }
         ensures rule { self.new.rule ≡ self.old.rule }
         ensures count { self.new.count ≡ self.old.count + 1 }
-        ensures total { self.new.total.units ≡ self.old.total.units +ℤ pos (distance_of (lowest self.old.rule) (highest self.old.rule) figure.units) }
+        ensures total { self.new.total.units ≡ self.old.total.units +ℤ pos (distance_of (R.lowest self.old.rule) (R.highest self.old.rule) figure.units) }
     {
         let Ok(far) = distance(&self.rule, figure) else {
             unreachable()

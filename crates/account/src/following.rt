@@ -10,7 +10,7 @@ use quantity::Power;
 
 /// Carries a call out, so that a history that is tied to the account goes on with this call and its answer.
 fn carry_out<R: BandRule + Drop>(account: &mut Account<R>, call: Call<R>) -> Answer
-    ensures { (first : R) (history : List (Turn R)) → Tied lowest highest first history account.old.rule account.old.total.units account.old.count → Tied lowest highest first (turn call result ∷ history) account.new.rule account.new.total.units account.new.count }
+    ensures { (first : R) (history : List (Turn R)) → Tied R.lowest R.highest first history account.old.rule account.old.total.units account.old.count → Tied R.lowest R.highest first (turn call result ∷ history) account.new.rule account.new.total.units account.new.count }
 {
     match call {
         Call::Replace(rule) => {

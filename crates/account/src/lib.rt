@@ -10,6 +10,8 @@
 //! let deviation = account.total();
 //! ```
 
+#![tactic(auto)]
+
 mod calls;
 mod client;
 mod following;

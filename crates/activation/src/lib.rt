@@ -8,6 +8,8 @@
 //! let way = request.direction();
 //! ```
 
+#![tactic(auto)]
+
 mod direction;
 mod request;
 

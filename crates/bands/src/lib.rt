@@ -9,6 +9,8 @@
 //! let stray = distance(&band, realised)?;
 //! ```
 
+#![tactic(auto)]
+
 mod allowance;
 mod bid_sum;
 mod floor;

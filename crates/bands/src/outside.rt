@@ -12,7 +12,7 @@ pub const FIGURE_LIMIT: i64 = 11_000_000_000_000_000;
 
 /// How far a figure lies outside a band, or zero. Refuses a figure beyond its limit (11).
 pub fn distance<R: BandRule>(rule: &R, figure: Power) -> Result<Power, Refusal>
-    ensures value { Answers (distance_refusal figure.units) (λ d. d.units ≡ pos (distance_of (lowest rule.now) (highest rule.now) figure.units)) result }
+    ensures value { Answers (distance_refusal figure.units) (λ d. d.units ≡ pos (distance_of (R.lowest rule.now) (R.highest rule.now) figure.units)) result }
     ensures bound { IfOk result (λ d. unsigned_abs d.units ≤ 13 * 10 ^ 15) }
 {
     if !is_within(figure.units(), -FIGURE_LIMIT, FIGURE_LIMIT) {
@@ -24,7 +24,7 @@ pub fn distance<R: BandRule>(rule: &R, figure: Power) -> Result<Power, Refusal>
 /// How far a figure within its limit lies outside a band.
 pub(crate) fn gap<R: BandRule>(rule: &R, figure: Power) -> Power
     requires { unsigned_abs figure.units ≤ 11 * 10 ^ 15 }
-    ensures value { result.units ≡ pos (distance_of (lowest rule.now) (highest rule.now) figure.units) }
+    ensures value { result.units ≡ pos (distance_of (R.lowest rule.now) (R.highest rule.now) figure.units) }
     ensures bound { unsigned_abs result.units ≤ 13 * 10 ^ 15 }
 {
     if let Some(low) = rule.low() {

@@ -7,14 +7,14 @@ use crate::order::Order;
 
 /// Whether a thing stands strictly before another.
 fn is_before<O: Order>(thing: &O::Thing, other: &O::Thing) -> bool
-    ensures { result ≡ not (ahead other.now thing.now) }
+    ensures { result ≡ not (O.ahead other.now thing.now) }
 {
     !O::is_no_later(other, thing)
 }
 
 /// The place of the first foremost thing in a run, or none in an empty run.
 pub fn first_foremost<O: Order>(run: &[O::Thing]) -> Option<usize>
-    ensures { MatchOption result (length run.now ≡ 0) (λ place. FirstForemost ahead run.now place) }
+    ensures { MatchOption result (length run.now ≡ 0) (λ place. FirstForemost O.ahead run.now place) }
 {
     if run.is_empty() {
         return None;

@@ -3,6 +3,8 @@
 //! `read_request_line` takes a line with its LF and answers a `RequestLine`, whose samples go into a request, or the
 //! `LineFault` of line_text that says what is wrong first and at which column.
 
+#![tactic(auto)]
+
 mod request_line;
 
 pub use request_line::{RequestLine, read_request_line};

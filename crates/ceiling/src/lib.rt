@@ -2,6 +2,8 @@
 //!
 //! Nothing in the library was changed for it: an account takes the rule, and `follow` promises its least change.
 
+#![tactic(auto)]
+
 mod client;
 mod rule;
 

@@ -11,6 +11,8 @@
 //! Other numbers in columns are made of the same parts: [`write_fixed`] and [`read_fixed`] for digits with zeros before them,
 //! [`read_plain`] for digits with no needless zero, [`blanks`] for what stands before a number.
 
+#![tactic(auto)]
+
 mod count;
 mod digits;
 mod width;

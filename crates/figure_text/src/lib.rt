@@ -8,6 +8,8 @@
 //! let units = read_figure(&line)?;             // units is -125_000_000_000
 //! ```
 
+#![tactic(auto)]
+
 mod form;
 mod read;
 mod row;

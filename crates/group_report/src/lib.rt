@@ -8,6 +8,8 @@
 //! let realised = realised_power(&[Some(report), None, None, None, None, None, None, None]);
 //! ```
 
+#![tactic(auto)]
+
 mod minute;
 mod participation;
 mod report;

@@ -7,6 +7,8 @@
 //! let allowance = terms.allowance();
 //! ```
 
+#![tactic(auto)]
+
 mod activated;
 mod bids;
 mod procured;

@@ -11,6 +11,8 @@
 //! let number = read_numbered_row(&line[0..25], Width::THREE, &mut figures)?;  // 7, and 125_000_000_000 in figures
 //! ```
 
+#![tactic(auto)]
+
 mod fault;
 mod first_letter;
 mod numbered_row;

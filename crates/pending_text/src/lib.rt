@@ -8,6 +8,8 @@
 //! pending.take_block(&mut buffer)?;   // refused (15) until 512 bytes are pending
 //! ```
 
+#![tactic(auto)]
+
 mod append;
 mod pending;
 mod take;

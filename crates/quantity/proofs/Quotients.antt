@@ -1,5 +1,5 @@
 -- Rounded quotients: what they come to, that they are nearest, and that nothing else is.
-use Rattle.std.proofs.Common.{◌≡◌, ℕ, zero, suc, ◌+◌, ◌*◌, ◌/◌, ◌^◌, ◌<◌, ◌≤◌, ℤ, pos, negsuc, ◌-ℤ◌, ◌*ℤ◌, neg_ℤ, nat_abs, sym, refl, ap, suc-mul, add-mul, lt_of_mul-lt-mul_right, mul-le-mul_left, div-mul-le_self, mul_left_comm, arith, w64, SFits}
+use Rattle.std.proofs.Common.{◌≡◌, ℕ, zero, suc, ◌+◌, ◌*◌, ◌^◌, ◌<◌, ◌≤◌, ℤ, pos, negsuc, ◌-ℤ◌, ◌*ℤ◌, neg_ℤ, nat_abs, sym, refl, ap, suc-mul, add-mul, lt_of_mul-lt-mul_right, mul-le-mul_left, div-mul-le_self, mul_left_comm, arith, w64, SFits}
 use native.Mathlib.Nat.{div-eq_of_lt-le, lt-div-mul-add}
 use lib.IntN.{neg_ℤ-neg_ℤ}
 use mir.Syntax.{w128}

@@ -1,5 +1,5 @@
 -- Powers and energies, in units of 10^-10 MW and 10^-10 MWh, and the one way from each to the other: a duration.
-use Rattle.std.specs.Prelude.{◌≡◌, ℕ, ◌^◌, cond, ℤ, pos, ◌*ℤ◌, neg_ℤ, ◌≤ℤ◌, ◌<ℤ◌, ◌==◌, int_le, unsigned_abs}
+use Rattle.std.specs.Prelude.{ℕ, ◌^◌, cond, ℤ, pos, ◌*ℤ◌, neg_ℤ, ◌≤ℤ◌, ◌<ℤ◌, ◌==◌, int_le, unsigned_abs}
 use Rattle.quantity.specs.declared.power.Power.{Power}
 use Rattle.quantity.specs.declared.energy.Energy.{Energy}
 use Rattle.quantity.specs.declared.share.Share.{Share}

@@ -8,6 +8,8 @@
 //! let deviation = Power::from_units(30).lasting(Minutes::ONE);  // half a unit of energy, rounded to 1
 //! ```
 
+#![tactic(auto)]
+
 mod activated_energy;
 mod deviation_energy;
 mod divisor;

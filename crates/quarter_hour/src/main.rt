@@ -4,6 +4,8 @@
 //! samples, and what the pool gave. Standard output gets a row for each minute and a line for each total. A line that is
 //! not taken ends the program with its place on standard error.
 
+#![tactic(auto)]
+
 mod input;
 mod judge;
 mod output;

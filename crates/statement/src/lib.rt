@@ -11,6 +11,8 @@
 //! let next_day = statement.requests();          // the six requests that open the next day's window
 //! ```
 
+#![tactic(auto)]
+
 mod fault;
 mod read;
 mod reader;

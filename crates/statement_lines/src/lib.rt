@@ -10,6 +10,8 @@
 //! let read = read_line(&line)?;              // StatementLine::Opening, the same opening
 //! ```
 
+#![tactic(auto)]
+
 mod day;
 mod day_length;
 mod group_count;

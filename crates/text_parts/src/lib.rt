@@ -9,6 +9,8 @@
 //!
 //! Start from [`Lines`], which hands out each [`Line`], and [`Line::field`], which hands out a [`Field`].
 
+#![tactic(auto)]
+
 mod field;
 mod line;
 mod lines;

@@ -4,7 +4,7 @@ use Rattle.count_text.proofs.Columns.{one_more_blank}
 use Rattle.count_text.proofs.digits.blanks.Goals as goal
 
 pub loop-i-preserved : goal.loop-i-preserved
-loop-i-preserved c = one_more_blank _ _ c.loop-i-test.true (c.is-blank.ensures.0 c.if-not-is-blank.false) c.loop-i.invariant
+loop-i-preserved c = one_more_blank _ _ c.loop-i-test.true (c.is_blank.ensures.0 c.if-not-is_blank.false) c.loop-i.invariant
 
 pub returns : goal.returns
 returns c =

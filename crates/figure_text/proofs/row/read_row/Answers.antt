@@ -8,8 +8,8 @@ use Rattle.figure_text.proofs.row.read_row.Goals as goal
 ok_ok : (x y : ℤ) → ◌≡◌ {A = Result ℤ Refusal} (Ok x) (Ok y) → y ≡ x
 ok_ok x y e = cc
 
-pub returns-in-default : goal.returns-in-default
-returns-in-default c = (c.loop-k-test.true, c.loop-k.invariant.1, figure_cut c.args.text.now c.loop-k.rest.now c.loop-k.k c.loop-k.invariant.0 c.in-default.ensures.cases)
+pub returns-in_default : goal.returns-in_default
+returns-in_default c = (c.loop-k-test.true, c.loop-k.invariant.1, figure_cut c.args.text.now c.loop-k.rest.now c.loop-k.k c.loop-k.invariant.0 c.in_default.ensures.cases)
 
 pub loop-k-preserved : goal.loop-k-preserved
 loop-k-preserved c =

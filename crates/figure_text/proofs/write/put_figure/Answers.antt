@@ -7,5 +7,5 @@ pub returns : goal.returns
 returns c =
     let x = c.args.units in
     let same = to_z-of_z w64 x c.ranges.units in
-    let whole = rw same at c.in-ok-put-whole.ensures in
-    figure_written x (omega arith) c.args.columns.now _ _ (omega arith) whole _ (c.unsigned-abs.ensures.value ∙ ap nat_abs same) c.write-fixed.ensures
+    let whole = rw same at c.in_ok-put_whole.ensures in
+    figure_written x (omega arith) c.args.columns.now _ _ (omega arith) whole _ (c.unsigned_abs.ensures.value ∙ ap nat_abs same) c.write_fixed.ensures

@@ -12,42 +12,42 @@ pub returns-in-Err : goal.returns-in-Err
 returns-in-Err c =
     let w = c.args.width.columns in
     let line = c.args.line.now in
-    let whole : is_whole (2 + w + 20 * length c.args.figures.now) line ≡ true = sym c.is-row.ensures ∙ c.if-not-is-row.false in
+    let whole : is_whole (2 + w + 20 * length c.args.figures.now) line ≡ true = sym c.is_row.ensures ∙ c.if-not-is_row.false in
     let part = count_part w c.columns-start.result line c.columns-start.ensures in
     let never : (n : ℕ) → CountIn w n (take w (drop 1 line)) → ⊥ = λ n h. err_ok _ n (c.in-Err.ensures.written_is_read n (rw part h)) in
     let f = count_fault w (length c.args.figures.now) line whole never in
     record {
-      first-fault = rw (f, c.not-in-form.ensures) (refl, refl);
+      first_fault = rw (f, c.not_in_form.ensures) (refl, refl);
       read_is_written = tt;
-      places = rw c.not-in-form.ensures (nothing_filled w 2 (drop (1 + w) line) c.args.figures.now (omega arith));
+      places = rw c.not_in_form.ensures (nothing_filled w 2 (drop (1 + w) line) c.args.figures.now (omega arith));
     }
 
-pub returns-in-Ok-read-row : goal.returns-in-Ok-read-row
-returns-in-Ok-read-row c =
+pub returns-in-Ok-read_row : goal.returns-in-Ok-read_row
+returns-in-Ok-read_row c =
     let w = c.args.width.columns in
     let line = c.args.line.now in
-    let same : length c.read-row.new.places ≡ length c.args.figures.now = c.read-row.auto.places in
-    let whole : is_whole (2 + w + 20 * length c.args.figures.now) line ≡ true = sym c.is-row.ensures ∙ c.if-not-is-row.false in
+    let same : length c.read_row.new.places ≡ length c.args.figures.now = c.read_row.auto.places in
+    let whole : is_whole (2 + w + 20 * length c.args.figures.now) line ≡ true = sym c.is_row.ensures ∙ c.if-not-is_row.false in
     let count = rw (count_part w c.columns-start.result line c.columns-start.ensures) at (c.in-Ok.ensures.read_is_written c.in-Ok.number refl) in
-    let row = rw (row_part w c.columns-start.result line c.columns-start.ensures) at c.in-Ok-read-row.ensures in
-    let f = clear w (length c.args.figures.now) line whole c.in-Ok.number c.args.width.few count (λ i lt. (get_or c.read-row.new.places i (pos 0), (row.0 i lt).0)) in
+    let row = rw (row_part w c.columns-start.result line c.columns-start.ensures) at c.in-Ok-read_row.ensures in
+    let f = clear w (length c.args.figures.now) line whole c.in-Ok.number c.args.width.few count (λ i lt. (get_or c.read_row.new.places i (pos 0), (row.0 i lt).0)) in
     record {
-      first-fault = rw f tt;
-      read_is_written = row_of_fields w c.in-Ok.number c.read-row.new.places line (rw same whole) count (λ k lt. (row.0 k (omega arith)).0);
+      first_fault = rw f tt;
+      read_is_written = row_of_fields w c.in-Ok.number c.read_row.new.places line (rw same whole) count (λ k lt. (row.0 k (omega arith)).0);
       places = tt;
     }
 
-pub returns-in-Err-read-row : goal.returns-in-Err-read-row
-returns-in-Err-read-row c =
+pub returns-in-Err-read_row : goal.returns-in-Err-read_row
+returns-in-Err-read_row c =
     let w = c.args.width.columns in
     let line = c.args.line.now in
-    let k = c.in-Err-read-row.k in
-    let whole : is_whole (2 + w + 20 * length c.args.figures.now) line ≡ true = sym c.is-row.ensures ∙ c.if-not-is-row.false in
+    let k = c.in-Err-read_row.k in
+    let whole : is_whole (2 + w + 20 * length c.args.figures.now) line ≡ true = sym c.is_row.ensures ∙ c.if-not-is_row.false in
     let count = rw (count_part w c.columns-start.result line c.columns-start.ensures) at (c.in-Ok.ensures.read_is_written c.in-Ok.number refl) in
-    let row = rw (row_part w c.columns-start.result line c.columns-start.ensures) at c.in-Err-read-row.ensures in
-    let f = figure_fault w (length c.args.figures.now) line whole c.in-Ok.number c.args.width.few count k row.0 (λ i lt. (get_or c.read-row.new.places i (pos 0), (row.1.0 i lt).0)) row.2 in
+    let row = rw (row_part w c.columns-start.result line c.columns-start.ensures) at c.in-Err-read_row.ensures in
+    let f = figure_fault w (length c.args.figures.now) line whole c.in-Ok.number c.args.width.few count k row.0 (λ i lt. (get_or c.read_row.new.places i (pos 0), (row.1.0 i lt).0)) row.2 in
     record {
-      first-fault = rw (f, c.not-in-form-in-Err-read-row.ensures, c.columns-start.ensures) (refl, refl);
+      first_fault = rw (f, c.not_in_form-in-Err-read_row.ensures, c.columns-start.ensures) (refl, refl);
       read_is_written = tt;
-      places = rw (c.not-in-form-in-Err-read-row.ensures, c.columns-start.ensures, before_figure w k) row.1;
+      places = rw (c.not_in_form-in-Err-read_row.ensures, c.columns-start.ensures, before_figure w k) row.1;
     }

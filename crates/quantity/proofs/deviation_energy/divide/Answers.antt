@@ -2,13 +2,13 @@ use Rattle.std.proofs.Common.{◌≡◌, mod-lt, arith}
 use Rattle.quantity.proofs.Places.{more_digits, more_is, places_fit, place_fits}
 use Rattle.quantity.proofs.deviation_energy.divide.Goals as goal
 
-pub overflow-mul-digits : goal.overflow-mul-digits
-overflow-mul-digits c =
+pub overflow_mul-digits : goal.overflow_mul-digits
+overflow_mul-digits c =
     let h = c.loop-place.invariant in
     omega (arith, places_fit _ _ _ _ _ h.0 h.1 h.2 (omega arith))
 
-pub overflow-add-digits : goal.overflow-add-digits
-overflow-add-digits c =
+pub overflow_add-digits : goal.overflow_add-digits
+overflow_add-digits c =
     let h = c.loop-place.invariant in
     omega (arith, place_fits _ _ _ _ _ h.0 h.1 h.2 (omega arith))
 
@@ -19,6 +19,6 @@ loop-place-preserved c =
 
 pub returns : goal.returns
 returns c =
-    let e : c.loop-place.-place ≡ c.args.places = omega arith in
+    let e : c.loop-place._place ≡ c.args.places = omega arith in
     let h = rw e at c.loop-place.invariant in
     record { exact = h.2; rest = h.0; digits = h.1 }

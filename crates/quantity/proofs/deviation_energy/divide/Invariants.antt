@@ -2,4 +2,4 @@ use Rattle.std.proofs.Common.{◌≡◌, ◌+◌, ◌*◌, ◌^◌, ◌<◌}
 use Rattle.quantity.proofs.deviation_energy.divide.Given as goal
 
 abbrev pub invariant-loop-place : goal.invariant-loop-place
-invariant-loop-place l = (l.rest < l.whole) × (l.digits < 10 ^ l.-place) × (l.part * 10 ^ l.-place ≡ l.digits * l.whole + l.rest)
+invariant-loop-place l = (l.rest < l.whole) × (l.digits < 10 ^ l._place) × (l.part * 10 ^ l._place ≡ l.digits * l.whole + l.rest)

@@ -7,5 +7,5 @@ pub returns : goal.returns
 returns c =
     let n = c.args.n in
     let d = c.args.d in
-    let is : c.round-division.result ≡ nearest n d = rw (div-add-mod' n d) at c.round-division.ensures.value in
+    let is : c.round_division.result ≡ nearest n d = rw (div-add-mod' n d) at c.round_division.ensures.value in
     record { value = is; bound = rw is (nearest_less n d c.requires.0) }

@@ -1,11 +1,11 @@
-use Rattle.std.proofs.Common.{pos, ◌*ℤ◌, refl, arith, w64, SFits, to_z, of_z}
+use Rattle.std.proofs.Common.{pos, ◌*ℤ◌, refl, arith, w64, SFits}
 use mir.Syntax.{w128}
 use Rattle.std.proofs.lemmas.Int.{ints, to_z-of_z, to_z_pos}
 use Rattle.quantity.proofs.Quotients.{scaled_small, wide_fits}
 use Rattle.quantity.proofs.rounding.scaled.Goals as goal
 
-pub overflow-mul-result : goal.overflow-mul-result
-overflow-mul-result c =
+pub overflow_mul-result : goal.overflow_mul-result
+overflow_mul-result c =
     let z = c.args.figure in
     let m = c.args.count in
     let wide : SFits w128 z = omega (arith, ints) in

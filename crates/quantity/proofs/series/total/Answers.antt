@@ -1,11 +1,11 @@
-use Rattle.std.proofs.Common.{get_or, pos, sym, ap, ◌∙◌, arith, take_all, w64, SFits, rules}
+use Rattle.std.proofs.Common.{get_or, pos, ap, ◌∙◌, arith, take_all, w64, SFits, rules}
 use Rattle.std.proofs.lemmas.Int.{ints}
 use Rattle.quantity.specs.Series.{total}
 use Rattle.quantity.proofs.Lists.{total_more}
 use Rattle.quantity.proofs.series.total.Goals as goal
 
-pub overflow-add-sum : goal.overflow-add-sum
-overflow-add-sum c =
+pub overflow_add-sum : goal.overflow_add-sum
+overflow_add-sum c =
     let f : SFits w64 (get_or c.args.figures.now c.loop-figure.figure-index (pos 0)) = search rules in
     omega (arith, ints)
 

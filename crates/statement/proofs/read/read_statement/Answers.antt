@@ -20,20 +20,20 @@ some_opening a b e = cc
 some_tail : (a b : TailLine) → Some a ≡ Some b → a ≡ b
 some_tail a b e = cc
 
-pub returns-in-err-content : goal.returns-in-err-content
-returns-in-err-content c =
+pub returns-in_err-content : goal.returns-in_err-content
+returns-in_err-content c =
     let text = c.args.text.now in
-    let p = err_from_is_err_and c.from-residual.result c.from-residual.ensures.1 in
-    let found = c.in-err-content.field-0.0 in
-    let at : Found {A = Statement} (text_fault text) (Err found) = rw c.loop-content.invariant.3 at (found_err ℕ Statement (fault_left c.loop-content.reader) found c.in-err-content.ensures.1) in
-    rw (p.1, p.2) (record { written_is_read = λ o rs xs h. rw (text_clear o rs xs text h) at at; read_is_written = tt; first-fault = at })
+    let p = err_from_is_err_and c.from_residual.result c.from_residual.ensures.1 in
+    let found = c.in_err-content.field-0.0 in
+    let at : Found {A = Statement} (text_fault text) (Err found) = rw c.loop-content.invariant.3 at (found_err ℕ Statement (fault_left c.loop-content.reader) found c.in_err-content.ensures.1) in
+    rw (p.1, p.2) (record { written_is_read = λ o rs xs h. rw (text_clear o rs xs text h) at at; read_is_written = tt; first_fault = at })
 
 pub loop-content-preserved : goal.loop-content-preserved
 loop-content-preserved c =
     let inv = c.loop-content.invariant in
     let before = c.loop-content.reader in
     let after = c.next.new.self in
-    let took = next_took before after c.in-ok-content.field-0 c.in-Some.content c.in-Some.is c.in-ok-content.ensures in
+    let took = next_took before after c.in_ok-content.field-0 c.in-Some.content c.in-Some.is c.in_ok-content.ensures in
     let line = took.part.bytes.now in (
       inv.0 ++ line,
       draws_more before.stage after.stage c.in-Some.content c.loop-content.draft c.add.new.self inv.0 line inv.1 c.add.ensures took.writes took.turn,
@@ -47,7 +47,7 @@ returns c =
     let inv = c.loop-content.invariant in
     let reader = c.loop-content.reader in
     let draft = c.loop-content.draft in
-    let end = next_ended reader c.next.new.self c.in-ok-content.field-0 c.in-default.is c.in-ok-content.ensures in
+    let end = next_ended reader c.next.new.self c.in_ok-content.field-0 c.in_default.is c.in_ok-content.ensures in
     let none : text_fault text ≡ None = sym inv.3 ∙ finished reader end.1 end.2 in
     let done : Done draft inv.0 = rw end.2 at inv.1 in
     let front : text ≡ inv.0 = inv.2 ∙ ap (λ (t : List ℕ). inv.0 ++ t) end.1 ∙ append-nil inv.0 in
@@ -56,4 +56,4 @@ returns c =
     let tail : done.tailed ≡ s.tail = some_tail _ _ (sym done.tail ∙ c.finish.ensures.tail) in
     let records : drafted draft ≡ records_of s = ap (λ (r : Records). take r.count r.list) (sym c.finish.ensures.records) in
     let is : StatementIn s.opening (records_of s) s.tail.requests text = rw front (rw (opening, records, tail) at done.whole) in
-    record { written_is_read = λ o rs xs h. same_statement s.opening o (records_of s) rs s.tail.requests xs text is h; read_is_written = is; first-fault = rw none tt }
+    record { written_is_read = λ o rs xs h. same_statement s.opening o (records_of s) rs s.tail.requests xs text is h; read_is_written = is; first_fault = rw none tt }

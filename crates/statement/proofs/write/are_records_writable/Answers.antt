@@ -6,13 +6,13 @@ use Rattle.statement_lines.specs.Records.{figures_of}
 use Rattle.statement.specs.Statements.{Fit}
 use Rattle.statement.proofs.write.are_records_writable.Goals as goal
 
-pub returns-then-not-are-writable : goal.returns-then-not-are-writable
-returns-then-not-are-writable c =
-    (λ e. absurd (false≢true e), λ all. c.if-not-are-writable.ensures.1 (rw c.figures.ensures (All-get_or (λ x. Fit (figures_of x)) c.args.records.now c.loop-record.record-index _ c.loop-record-test.true all)))
+pub returns-then-not-are_writable : goal.returns-then-not-are_writable
+returns-then-not-are_writable c =
+    (λ e. absurd (false≢true e), λ all. c.if-not-are_writable.ensures.1 (rw c.figures.ensures (All-get_or (λ x. Fit (figures_of x)) c.args.records.now c.loop-record.record-index _ c.loop-record-test.true all)))
 
 pub loop-record-preserved : goal.loop-record-preserved
 loop-record-preserved c =
-    All-more (λ x. Fit (figures_of x)) c.args.records.now c.loop-record.record-index _ c.loop-record-test.true c.loop-record.invariant (rw c.figures.ensures at (c.if-not-are-writable.ensures.0 refl))
+    All-more (λ x. Fit (figures_of x)) c.args.records.now c.loop-record.record-index _ c.loop-record-test.true c.loop-record.invariant (rw c.figures.ensures at (c.if-not-are_writable.ensures.0 refl))
 
 pub returns : goal.returns
 returns c =

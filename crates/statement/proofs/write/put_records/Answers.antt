@@ -19,14 +19,14 @@ nothing =
 
 pub loop-k-preserved : goal.loop-k-preserved
 loop-k-preserved c =
-    records_step c.args.records.now c.args.out.now c.requires.0 c.requires.1.0 c.requires.1.1 c.loop-k.k c.loop-k.out _ c.loop-k-test.true c.loop-k.invariant c.write-record-line.new.out
-    c.in-ok-write-record-line.ensures.bytes
+    records_step c.args.records.now c.args.out.now c.requires.0 c.requires.1.0 c.requires.1.1 c.loop-k.k c.loop-k.out _ c.loop-k-test.true c.loop-k.invariant c.write_record_line.new.out
+    c.in_ok-write_record_line.ensures.bytes
 
-pub returns-in-err-write-record-line : goal.returns-in-err-write-record-line
-returns-in-err-write-record-line c =
+pub returns-in_err-write_record_line : goal.returns-in_err-write_record_line
+returns-in_err-write_record_line c =
     absurd
     (never_refused _ _ (not_refused_here c.args.records.now c.args.out.now c.requires.0 c.requires.1.0 c.requires.1.1 c.loop-k.k c.loop-k.out nothing c.loop-k-test.true c.loop-k.invariant)
-    c.in-err-write-record-line.ensures.refused_first)
+    c.in_err-write_record_line.ensures.refused_first)
 
 pub returns : goal.returns
 returns c = records_done c.args.records.now c.args.out.now c.requires.0 c.requires.1.0 c.requires.1.1 c.loop-k.k c.loop-k.out c.loop-k-test.false (omega arith) c.loop-k.invariant

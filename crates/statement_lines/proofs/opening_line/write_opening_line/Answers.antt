@@ -9,6 +9,6 @@ pub returns : goal.returns
 returns c =
     let o = c.args.opening.now in
     let old = c.args.out.now in
-    let t : leb 12 (length old) ≡ true = le-leb 12 (length old) c.if-out-lt-OPENING-LENGTH.false in
-    let done = row_answered c.put-opening.result (c.put-opening.new.out ≡ opening_text o ++ drop 12 old) c.put-opening.ensures in
+    let t : leb 12 (length old) ≡ true = le-leb 12 (length old) c.if-out-lt-OPENING_LENGTH.false in
+    let done = row_answered c.put_opening.result (c.put_opening.new.out ≡ opening_text o ++ drop 12 old) c.put_opening.ensures in
     record { refused_first = rw t done.0; bytes = rw t (done.1 ∙ ap (λ (n : ℕ). opening_text o ++ drop n old) (sym (opening_length o))) }

@@ -14,59 +14,59 @@ use Rattle.statement_lines.specs.Openings.{behind_letter, opening_fault}
 use Rattle.statement_lines.proofs.Readings.{opening_letter, record_letter, tail_letter, reads_back}
 use Rattle.statement_lines.proofs.statement_line.read_line.Goals as goal
 
-pub returns-in-err-read-opening : goal.returns-in-err-read-opening
-returns-in-err-read-opening c =
+pub returns-in_err-read_opening : goal.returns-in_err-read_opening
+returns-in_err-read_opening c =
     let line = c.args.line.now in
-    let p = err_from_is_err_and c.from-residual.result c.from-residual.ensures.1 in
-    let found = c.in-err-read-opening.field-0.0 in
+    let p = err_from_is_err_and c.from_residual.result c.from_residual.ensures.1 in
+    let found = c.in_err-read_opening.field-0.0 in
     let first : Some 68 ≡ letter_of line = search rules in
-    let judged : Judged {A = StatementLine} (line_fault line) (Err found) = rw (opening_letter line first).0 (fault_of OpeningOf StatementLine (opening_fault line) found c.in-err-read-opening.ensures.first-fault) in
-    rw (p.1, p.2) (record { written_is_read = reads_back line (Err found) judged tt; read_is_written = tt; first-fault = judged })
+    let judged : Judged {A = StatementLine} (line_fault line) (Err found) = rw (opening_letter line first).0 (fault_of OpeningOf StatementLine (opening_fault line) found c.in_err-read_opening.ensures.first_fault) in
+    rw (p.1, p.2) (record { written_is_read = reads_back line (Err found) judged tt; read_is_written = tt; first_fault = judged })
 
-pub returns-in-err-read-record : goal.returns-in-err-read-record
-returns-in-err-read-record c =
+pub returns-in_err-read_record : goal.returns-in_err-read_record
+returns-in_err-read_record c =
     let line = c.args.line.now in
-    let p = err_from_is_err_and c.from-residual-in-err-read-record.result c.from-residual-in-err-read-record.ensures.1 in
-    let found = c.in-err-read-record.field-0.0 in
+    let p = err_from_is_err_and c.from_residual-in_err-read_record.result c.from_residual-in_err-read_record.ensures.1 in
+    let found = c.in_err-read_record.field-0.0 in
     let first : Some 73 ≡ letter_of line = search rules in
-    let judged : Judged {A = StatementLine} (line_fault line) (Err found) = rw (record_letter line first).0 (fault_of RecordLine StatementLine (numbered_fault 3 8 line) found c.in-err-read-record.ensures.first-fault) in
-    rw (p.1, p.2) (record { written_is_read = reads_back line (Err found) judged tt; read_is_written = tt; first-fault = judged })
+    let judged : Judged {A = StatementLine} (line_fault line) (Err found) = rw (record_letter line first).0 (fault_of RecordLine StatementLine (numbered_fault 3 8 line) found c.in_err-read_record.ensures.first_fault) in
+    rw (p.1, p.2) (record { written_is_read = reads_back line (Err found) judged tt; read_is_written = tt; first_fault = judged })
 
-pub returns-in-err-read-tail : goal.returns-in-err-read-tail
-returns-in-err-read-tail c =
+pub returns-in_err-read_tail : goal.returns-in_err-read_tail
+returns-in_err-read_tail c =
     let line = c.args.line.now in
-    let p = err_from_is_err_and c.from-residual-in-err-read-tail.result c.from-residual-in-err-read-tail.ensures.1 in
-    let found = c.in-err-read-tail.field-0.0 in
+    let p = err_from_is_err_and c.from_residual-in_err-read_tail.result c.from_residual-in_err-read_tail.ensures.1 in
+    let found = c.in_err-read_tail.field-0.0 in
     let first : Some 84 ≡ letter_of line = search rules in
-    let judged : Judged {A = StatementLine} (line_fault line) (Err found) = rw (tail_letter line first).0 (fault_of TailLine StatementLine (numbered_fault 3 6 line) found c.in-err-read-tail.ensures.first-fault) in
-    rw (p.1, p.2) (record { written_is_read = reads_back line (Err found) judged tt; read_is_written = tt; first-fault = judged })
+    let judged : Judged {A = StatementLine} (line_fault line) (Err found) = rw (tail_letter line first).0 (fault_of TailLine StatementLine (numbered_fault 3 6 line) found c.in_err-read_tail.ensures.first_fault) in
+    rw (p.1, p.2) (record { written_is_read = reads_back line (Err found) judged tt; read_is_written = tt; first_fault = judged })
 
-pub returns-in-ok-read-opening : goal.returns-in-ok-read-opening
-returns-in-ok-read-opening c =
+pub returns-in_ok-read_opening : goal.returns-in_ok-read_opening
+returns-in_ok-read_opening c =
     let line = c.args.line.now in
     let first : Some 68 ≡ letter_of line = search rules in
     let letter = opening_letter line first in
-    let got = c.in-ok-read-opening.field-0 in
-    let is : LineIn (Opening got) line = c.in-ok-read-opening.ensures.read_is_written ∙ ap (λ (b : ℕ). b ∷ behind_letter got) letter.1 in
-    let judged : Judged (line_fault line) (Ok (Opening got)) = rw letter.0 (taken_of (opening_fault line) got (Opening got) c.in-ok-read-opening.ensures.first-fault) in
-    record { written_is_read = reads_back line (Ok (Opening got)) judged is; read_is_written = is; first-fault = judged }
+    let got = c.in_ok-read_opening.field-0 in
+    let is : LineIn (Opening got) line = c.in_ok-read_opening.ensures.read_is_written ∙ ap (λ (b : ℕ). b ∷ behind_letter got) letter.1 in
+    let judged : Judged (line_fault line) (Ok (Opening got)) = rw letter.0 (taken_of (opening_fault line) got (Opening got) c.in_ok-read_opening.ensures.first_fault) in
+    record { written_is_read = reads_back line (Ok (Opening got)) judged is; read_is_written = is; first_fault = judged }
 
-pub returns-in-ok-read-record : goal.returns-in-ok-read-record
-returns-in-ok-read-record c =
+pub returns-in_ok-read_record : goal.returns-in_ok-read_record
+returns-in_ok-read_record c =
     let line = c.args.line.now in
     let first : Some 73 ≡ letter_of line = search rules in
     let letter = record_letter line first in
-    let got = c.in-ok-read-record.field-0 in
-    let is : LineIn (Record got) line = rw letter.1 at c.in-ok-read-record.ensures.read_is_written in
-    let judged : Judged (line_fault line) (Ok (Record got)) = rw letter.0 (taken_of (numbered_fault 3 8 line) got (Record got) c.in-ok-read-record.ensures.first-fault) in
-    record { written_is_read = reads_back line (Ok (Record got)) judged is; read_is_written = is; first-fault = judged }
+    let got = c.in_ok-read_record.field-0 in
+    let is : LineIn (Record got) line = rw letter.1 at c.in_ok-read_record.ensures.read_is_written in
+    let judged : Judged (line_fault line) (Ok (Record got)) = rw letter.0 (taken_of (numbered_fault 3 8 line) got (Record got) c.in_ok-read_record.ensures.first_fault) in
+    record { written_is_read = reads_back line (Ok (Record got)) judged is; read_is_written = is; first_fault = judged }
 
-pub returns-in-ok-read-tail : goal.returns-in-ok-read-tail
-returns-in-ok-read-tail c =
+pub returns-in_ok-read_tail : goal.returns-in_ok-read_tail
+returns-in_ok-read_tail c =
     let line = c.args.line.now in
     let first : Some 84 ≡ letter_of line = search rules in
     let letter = tail_letter line first in
-    let got = c.in-ok-read-tail.field-0 in
-    let is : LineIn (Tail got) line = rw letter.1 at c.in-ok-read-tail.ensures.read_is_written in
-    let judged : Judged (line_fault line) (Ok (Tail got)) = rw letter.0 (taken_of (numbered_fault 3 6 line) got (Tail got) c.in-ok-read-tail.ensures.first-fault) in
-    record { written_is_read = reads_back line (Ok (Tail got)) judged is; read_is_written = is; first-fault = judged }
+    let got = c.in_ok-read_tail.field-0 in
+    let is : LineIn (Tail got) line = rw letter.1 at c.in_ok-read_tail.ensures.read_is_written in
+    let judged : Judged (line_fault line) (Ok (Tail got)) = rw letter.0 (taken_of (numbered_fault 3 6 line) got (Tail got) c.in_ok-read_tail.ensures.first_fault) in
+    record { written_is_read = reads_back line (Ok (Tail got)) judged is; read_is_written = is; first_fault = judged }

@@ -7,4 +7,4 @@ use Rattle.bands.proofs.tolerance.ToleranceBand.over.Goals as goal
 pub between-requires : goal.between-requires
 between-requires c =
     let ordered = least-below-greatest (request_units c.args.window.now) in
-    record { ordered = omega (arith, ints); low-limit = c.lower-end-low.ensures.bound; high-limit = c.upper-end-high.ensures.bound }
+    record { ordered = omega (arith, ints); low_limit = c.lower_end-low.ensures.bound; high_limit = c.upper_end-high.ensures.bound }

@@ -3,8 +3,8 @@ use Rattle.std.proofs.lemmas.Bool.Decides.{not_from_Decides}
 use Rattle.statement.proofs.Reading.{stopped}
 use Rattle.statement.proofs.reader.StatementReader.ended.Goals as goal
 
-pub overflow-add-result : goal.overflow-add-result
-overflow-add-result c =
+pub overflow_add-result : goal.overflow_add-result
+overflow_add-result c =
     let a = c.args.self.now.lines.within in
     let b = c.args.self.now.lines.counted in
     let d = c.args.self.now.lines.short in
@@ -12,6 +12,6 @@ overflow-add-result c =
 
 pub returns : goal.returns
 returns c =
-    let other = not_from_Decides _ c.is-ended.ensures c.if-is-ended.false in
+    let other = not_from_Decides _ c.is_ended.ensures c.if-is_ended.false in
     let f = stopped c.args.self.now c.requires other in
     (refl, rw (f, c.taken.ensures) (refl, refl, refl))

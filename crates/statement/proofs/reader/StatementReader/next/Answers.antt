@@ -9,7 +9,7 @@ returns-in-Ok c =
     let line = c.in-Some.line in
     let moved = c.in-Some.ensures in
     let turn = rw c.bytes.ensures at c.in-Ok.ensures.turn in
-    let judged = rw c.bytes.ensures at c.in-Ok.ensures.first-fault in
+    let judged = rw c.bytes.ensures at c.in-Ok.ensures.first_fault in
     record {
       part = line;
       told = refl;
@@ -25,6 +25,6 @@ returns-in-Ok c =
 
 pub returns-in-Err : goal.returns-in-Err
 returns-in-Err c =
-    let judged = rw c.bytes.ensures at c.in-Err.ensures.first-fault in
+    let judged = rw c.bytes.ensures at c.in-Err.ensures.first_fault in
     let found = refused_here c.args.self.now c.next.new.self c.in-Some.line c.in-Err.fault c.in-Some.ensures judged in
     (refl, rw c.number.ensures found)

@@ -33,5 +33,5 @@ returns c =
     let f5 : SFits w64 (get_or xs 5 (pos 0)) = search rules in
     let f6 : SFits w64 (get_or xs 6 (pos 0)) = search rules in
     let f7 : SFits w64 (get_or xs 7 (pos 0)) = search rules in
-    eight xs _ _ _ _ _ _ _ _ long (ap (λ (p : Power). p.units) c.from-units.ensures ∙ to_z-of_z w64 _ f0) (ap (λ (p : Power). p.units) c.from-units-2.ensures ∙ to_z-of_z w64 _ f1) (ap (λ (p : Power). p.units) c.from-units-3.ensures ∙ to_z-of_z w64 _ f2) (ap (λ (p : Power). p.units) c.from-units-4.ensures ∙ to_z-of_z w64 _ f3)
-    (ap (λ (p : Energy). p.units) c.from-units-5.ensures ∙ to_z-of_z w64 _ f4) (ap (λ (p : Energy). p.units) c.from-units-6.ensures ∙ to_z-of_z w64 _ f5) (ap (λ (p : Share). p.units) c.from-units-7.ensures ∙ to_z-of_z w64 _ f6) (ap (λ (p : Share). p.units) c.from-units-8.ensures ∙ to_z-of_z w64 _ f7)
+    eight xs _ _ _ _ _ _ _ _ long (ap (λ (p : Power). p.units) c.from_units.ensures ∙ to_z-of_z w64 _ f0) (ap (λ (p : Power). p.units) c.from_units-2.ensures ∙ to_z-of_z w64 _ f1) (ap (λ (p : Power). p.units) c.from_units-3.ensures ∙ to_z-of_z w64 _ f2) (ap (λ (p : Power). p.units) c.from_units-4.ensures ∙ to_z-of_z w64 _ f3)
+    (ap (λ (p : Energy). p.units) c.from_units-5.ensures ∙ to_z-of_z w64 _ f4) (ap (λ (p : Energy). p.units) c.from_units-6.ensures ∙ to_z-of_z w64 _ f5) (ap (λ (p : Share). p.units) c.from_units-7.ensures ∙ to_z-of_z w64 _ f6) (ap (λ (p : Share). p.units) c.from_units-8.ensures ∙ to_z-of_z w64 _ f7)
