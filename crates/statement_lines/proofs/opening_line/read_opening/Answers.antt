@@ -8,7 +8,7 @@ returns c =
     let line = c.args.line.now in
     let o : Opening = record { day = c.in-Some.day; length = c.in-Some-day_length_in.length; groups = c.in-Some-group_count_in.groups } in
     let is =
-    opening_of_fields o line (sym c.is_whole_lem.ensures ∙ c.if-not-is_whole.false) c.in-Some.ensures.read_is_written c.in-Some-day_length_in.ensures.read_is_written
+    opening_of_fields o line (sym c.is_whole.ensures ∙ c.if-not-is_whole.false) c.in-Some.ensures.read_is_written c.in-Some-day_length_in.ensures.read_is_written
     c.in-Some-group_count_in.ensures.read_is_written in
     let none = opening_clear o line (ap (λ (l : List ℕ). drop 1 l) is) in
     record { first_fault = rw none tt; read_is_written = is }
