@@ -8,8 +8,7 @@ use call_lines::read_request_line;
 use figure_text::{COLUMNS, read_row};
 use line_text::LineFault;
 use quantity::{Power, Refusal};
-use std::alloc::Global;
-use std::io::{BufRead, BufReader, Stdin};
+use std::io::{self, BufRead, BufReader, Stdin};
 
 /// The figures of the terms: procured reserve, the sums of upward and of downward bids, six requests.
 const TERMS: usize = 9;
@@ -21,7 +20,6 @@ const GIVEN: usize = 2;
 #[derive(Drop)]
 pub(crate) struct Input {
     from: BufReader<Stdin>,
-    heap: Global,
     line: Vec<u8>,
     count: u32,
 }
@@ -64,14 +62,13 @@ fn terms_of(figures: &[i64; TERMS]) -> Option<Terms> {
 }
 
 impl Input {
-    pub(crate) fn new(rt: &HostRuntime) -> Input {
+    pub(crate) fn new(rt: &HostRuntime) -> io::Result<Input> {
         let heap = rt.alloc();
-        Input {
-            from: BufReader::new(rt.stdin()),
-            heap,
+        Ok(Input {
+            from: BufReader::new(heap, rt.stdin())?,
             line: Vec::new(heap),
             count: 0,
-        }
+        })
     }
 
     /// Goes on to the next line.
@@ -87,10 +84,7 @@ impl Input {
         let line = self.count;
         let column = fault.column;
         let number = fault.refusal.number();
-        match format!(in self.heap; "line {line}, column {column}: refused with {number}") {
-            Ok(text) => text.into(),
-            Err(_) => "no memory".into(),
-        }
+        anyhow!("line {line}, column {column}: refused with {number}")
     }
 
     /// What is said of a line whose figures a call refused.

@@ -20,7 +20,7 @@ const MINUTES: u8 = 15;
 
 /// Reads, judges and writes the quarter hour.
 fn run(rt: &HostRuntime) -> anyhow::Result<()> {
-    let mut input = Input::new(rt);
+    let mut input = Input::new(rt)?;
     let mut out = rt.stdout();
     let mut judge = Judge::new(input.terms()?);
     for minute in 0..MINUTES {
