@@ -31,6 +31,7 @@ answer-is answer_is
 atEnd at_end
 atRight at_right
 before-figure before_figure
+before-figures before_figures
 before-is before_is
 begun-joined begun_joined
 behind-is behind_is
@@ -45,6 +46,8 @@ block-left block_left
 blockRefusal block_refusal
 broken-stays broken_stays
 bytesAfter bytes_after
+checkColumn check_column
+checkNumber check_number
 columns-left columns_left
 columns-long columns_long
 comesHere comes_here
@@ -88,6 +91,7 @@ err-ok err_ok
 every-fits every_fits_lem
 every-not every_not
 everyFits every_fits
+fault-alone fault_alone
 fault-is fault_is
 fault-of fault_of
 fault-stays fault_stays
@@ -183,6 +187,7 @@ length-step length_step
 length-units length_units
 letter-first letter_first
 letter-is letter_is
+letter-of letter_of
 letter-tells letter_tells
 letterOf letter_of
 line-appended line_appended
@@ -199,6 +204,8 @@ mark-minus mark_minus
 mark-none mark_none
 minus-behind-blanks minus_behind_blanks
 minus-over-blank minus_over_blank
+minute-fault minute_fault
+minute-of minute_of
 minutesAfter minutes_after
 more-digits more_digits
 more-is more_is
@@ -280,11 +287,13 @@ part-behind part_behind
 part-lt part_lt
 participation-is participation_is
 participationOf participation_of
+passes-all passes_all
 past-count past_count
 past-day past_day
 past-groups past_groups
 past-length past_length
 past-letter past_letter
+past-minute past_minute
 place-fits place_fits
 places-fit places_fit
 plain-is-fixed plain_is_fixed
@@ -342,7 +351,9 @@ refused-here refused_here
 refused-if refused_if
 refused-okOr refused_ok_or
 reportRefusal report_refusal
+request-alone request_alone
 request-clear request_clear
+request-from request_from
 request-read request_read
 request-refused request_refused
 request-taken request_taken
@@ -362,6 +373,7 @@ row-bytes row_bytes
 row-clear row_clear
 row-fault-at row_fault_at
 row-length row_length
+row-long row_long
 row-not-refused row_not_refused
 row-of-fields row_of_fields
 row-one-line row_one_line
@@ -392,6 +404,8 @@ same-split same_split
 same-statement same_statement
 same-text-decides same_text_decides
 sameText same_text
+sample-fault sample_fault
+sample-of sample_of
 samplesRefusal samples_refusal
 signed-begins-with-no-blank signed_begins_with_no_blank
 signed-one-line signed_one_line
@@ -446,6 +460,7 @@ upward-sum upward_sum
 value-fits value_fits
 value-fixed value_fixed
 value-last value_last
+whole-fault whole_fault
 whole-lt whole_lt
 whole-on whole_on
 wholeText whole_text

@@ -115,11 +115,17 @@ fn limits_are_included(rt: HostRuntime) {
 
 #[test]
 fn each_refusal_has_its_number(rt: HostRuntime) {
-    assert_eq!(rt; Refusal::TermsOutOfRange.number(), 7);
-    assert_eq!(rt; Refusal::StatusNotReadable.number(), 10);
     assert_eq!(rt; Refusal::OutOfRange.number(), 11);
     assert_eq!(rt; Refusal::PlaceTaken.number(), 12);
     assert_eq!(rt; Refusal::BufferTooShort.number(), 16);
     assert_eq!(rt; Refusal::NotInForm.number(), 17);
     assert_eq!(rt; Refusal::NotALine.number(), 18);
+}
+
+#[test]
+fn the_other_refusals_have_their_numbers(rt: HostRuntime) {
+    assert_eq!(rt; Refusal::TermsOutOfRange.number(), 7);
+    assert_eq!(rt; Refusal::StatusNotReadable.number(), 10);
+    assert_eq!(rt; Refusal::BlockNotFull.number(), 15);
+    assert_eq!(rt; Refusal::NotInTurn.number(), 19);
 }

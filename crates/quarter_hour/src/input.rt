@@ -4,9 +4,8 @@ use crate::judge::{Given, Terms};
 use activation::ActivationRequest;
 use anyhow::anyhow;
 use bands::{Allowance, BidSum, Floor};
-use call_lines::read_request_line;
+use call_lines::{LineFault, read_request_line};
 use figure_text::{COLUMNS, read_row};
-use line_text::LineFault;
 use quantity::{Power, Refusal};
 use std::io::{self, BufRead, BufReader, Stdin};
 
@@ -24,6 +23,12 @@ pub(crate) struct Input {
     count: u32,
 }
 
+/// A line with another letter or another length.
+const NO_LINE: LineFault = LineFault {
+    refusal: Refusal::NotALine,
+    column: 1,
+};
+
 /// Whether a line has a letter, the length of so many figures and LF.
 fn is_line(line: &[u8], letter: char, figures: usize) -> bool {
     let n = line.len();
@@ -37,11 +42,14 @@ fn is_line(line: &[u8], letter: char, figures: usize) -> bool {
 /// Reads the figures of a line that has a letter, just so many figures and LF.
 fn read_figures(line: &[u8], letter: char, figures: &mut [i64]) -> Result<(), LineFault> {
     if line.is_empty() || !is_line(line, letter, figures.len()) {
-        return Err(LineFault::not_a_line());
+        return Err(NO_LINE);
     }
     match read_row(&line[1..], figures) {
         Ok(()) => Ok(()),
-        Err(k) => Err(LineFault::not_in_form(k.saturating_mul(COLUMNS).saturating_add(2))),
+        Err(k) => Err(LineFault {
+            refusal: Refusal::NotInForm,
+            column: k.saturating_mul(COLUMNS).saturating_add(2),
+        }),
     }
 }
 

@@ -50,7 +50,7 @@ mod tests {
         let Some(field) = line.field(3, 2) else {
             return Err(Fail::new("no part"));
         };
-        assert!(rt; field.bytes() == b"12");
+        assert!(rt; field.bytes() == b"12".as_slice());
         assert_eq!(rt; field.line(), 1);
         assert_eq!(rt; field.column(), 3);
         assert!(rt; line.field(0, 1).is_none());
