@@ -1,11 +1,18 @@
 -- A line behind the pending text, and a block from its front.
-use Rattle.std.proofs.Common.{◌≡◌, ℕ, ◌+◌, ◌-◌, ◌≤◌, List, [], ◌∷◌, ◌++◌, length, take, drop, Some, None, Ok, Err, Option, sym, refl, ap, ◌∙◌, arith}
+use Rattle.std.proofs.Common.{◌≡◌, ℕ, ◌+◌, ◌-◌, ◌*◌, ◌^◌, ◌<◌, ◌≤◌, ◌==◌, ◌&&◌, List, ◌++◌, length, take, drop, ℤ, Some, None, Ok, Err, Option, inl, inr, sym, refl, ap, ◌∙◌, arith}
 use borrow.Rule.Slice.PartMut.{put_mid, post_of}
 use Rattle.std.proofs.lemmas.List.{append_assoc, take_all, take_at, take-take, drop-take, length-append, length-drop, length-take-le}
+use Rattle.std.proofs.lemmas.Bool.{cases_Bool, and_parts, eqb-true, le-leb, ltb-true}
+use Rattle.statement_lines.specs.Records.{tail_text, tail_refusal}
+use Rattle.line_text.specs.NumberedRows.{numbered_text, numbered_refusal}
+use Rattle.line_text.proofs.Puts.{numbered_length}
+use Rattle.figure_text.specs.Rows.{writable}
+use Rattle.figure_text.proofs.Rows.{writable_all}
+use lib.Dec.{ltb}
 use Rattle.quantity.specs.declared.refusal.Refusal.{Refusal}
 use Rattle.count_text.specs.Columns.{Writes, bytes_after}
 use Rattle.pending_text.specs.declared.pending.PendingText.{PendingText}
-use Rattle.pending_text.specs.Pending.{text_of, Appended}
+use Rattle.pending_text.specs.Pending.{text_of, Appended, block_refusal, BlockTaken}
 
 -- what was done was not refused
 none_of : (why : Option ℕ) → Writes why (Ok tt) → why ≡ None
@@ -14,10 +21,11 @@ none_of None h = refl
 
 -- a line is written behind n bytes
 pub line_appended :
-    (why : Option ℕ) (n w : ℕ) (bytes part line : List ℕ) (before after : PendingText) → before.bytes ≡ bytes → before.length ≡ n → length bytes ≡ 676 → n ≤ 676 → length line ≡ w → Writes why (Ok tt) →
+    (why : Option ℕ) (n w : ℕ) (bytes part line : List ℕ) (before after : PendingText) → before.bytes ≡ bytes → before.length ≡ n → length bytes ≡ 676 → n ≤ 676 → (why ≡ None → length line ≡ w) → Writes why (Ok tt) →
     part ≡ bytes_after why line (take (676 - n) (drop n bytes)) → after.bytes ≡ put_mid n (676 - n) bytes part → after.length ≡ n + w → Appended why line before after
-line_appended why n w bytes part line before after b l long within size done written put longer =
+line_appended why n w bytes part line before after b l long within sized done written put longer =
     let none = none_of why done in
+    let size = sized none in
     let p : part ≡ line ++ drop (length line) (take (676 - n) (drop n bytes)) = rw none at written in
     let front = take n bytes ++ line in
     let rest = drop (length line) (take (676 - n) (drop n bytes)) ++ post_of n (676 - n) bytes in
@@ -27,6 +35,30 @@ line_appended why n w bytes part line before after b l long within size done wri
     let text : text_of after ≡ front = ap (λ (k : ℕ). take k after.bytes) longer ∙ ap (λ (t : List ℕ). take (n + w) t) is ∙ take_at front rest (n + w) m in
     let old : text_of before ≡ take n bytes = ap (λ (k : ℕ). take k before.bytes) l ∙ ap (λ (t : List ℕ). take n t) b in
     rw none (text ∙ ap (λ (t : List ℕ). t ++ line) (sym old))
+
+-- a numbered row that is not refused is as long as it should be
+pub numbered_sized : (letter w n : ℕ) (xs : List ℤ) (room : ℕ) → 0 < w → w ≤ 18 → numbered_refusal w n xs room ≡ None → length (numbered_text letter w n xs) ≡ 2 + w + 20 * length xs
+numbered_sized letter w n xs room some few taken =
+    elim (cases_Bool (ltb n (10 ^ w) && writable xs)) [
+      | inl e ↦ let p = and_parts (ltb n (10 ^ w)) (writable xs) e in numbered_length letter w n xs some few (ltb-true n (10 ^ w) p.0) (writable_all xs p.1)
+      | inr e ↦ let wide : ◌≡◌ {A = Option ℕ} (Some 11) None = rw e at taken in absurd cc
+    ]
+
+-- and so is a tail
+pub tail_sized : (closed : ℕ) (requests : List ℤ) (room : ℕ) → tail_refusal closed requests room ≡ None → length (tail_text closed requests) ≡ 125
+tail_sized closed requests room taken =
+    elim (cases_Bool (length requests == 6)) [
+      | inl e ↦
+          let six : length requests ≡ 6 = eqb-true (length requests) 6 e in
+          let long = numbered_sized 84 3 closed requests room (omega arith) (omega arith) (rw e at taken) in
+          omega arith
+      | inr e ↦ let wrong : ◌≡◌ {A = Option ℕ} (Some 11) None = rw e at taken in absurd cc
+    ]
+
+-- what is refused stays as it was
+pub refused_stays : (why : Option ℕ) (e : Refusal) (line : List ℕ) (p : PendingText) → Writes why (Err e) → Appended why line p p
+refused_stays (Some number) e line p said = refl
+refused_stays None e line p said = absurd said
 
 -- a block, written over the start of zeros, is still there
 pub block_front : (from to zs : List ℕ) → length from ≡ 676 → to ≡ take 164 (take 164 (drop 512 from)) ++ zs → take 164 to ≡ drop 512 from
@@ -44,3 +76,14 @@ block_left n p r low high e =
     let b = drop-take 512 (n - 512) p in
     let c = take-take (n - 512) 164 r (omega arith) in
     sym a ∙ ap (λ (l : List ℕ). take (n - 512) l) e ∙ sym b ∙ ap (λ (k : ℕ). drop 512 (take k p)) s
+
+-- a block is taken
+pub block_taken :
+    (before after : PendingText) (out new : List ℕ) → 512 ≤ before.length → 512 ≤ length out → new ≡ take 512 before.bytes ++ drop 512 out →
+    take 164 after.bytes ≡ drop 512 before.bytes → after.length ≡ before.length - 512 → BlockTaken (block_refusal before (length out)) before after out new
+block_taken before after out new full room written left shorter =
+    let pending = le-leb 512 before.length full in
+    let fits = le-leb 512 (length out) room in
+    let a = ap (λ (k : ℕ). take k after.bytes) shorter ∙ block_left before.length before.bytes after.bytes full before.within left in
+    let b = take-take 512 before.length before.bytes full in
+    rw (pending, fits) (a, written ∙ ap (λ (t : List ℕ). t ++ drop 512 out) (sym b))

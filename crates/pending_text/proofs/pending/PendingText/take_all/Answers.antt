@@ -1,4 +1,0 @@
-use Rattle.pending_text.proofs.pending.PendingText.take_all.Goals as goal
-
-pub returns : goal.returns
-returns c = ?
