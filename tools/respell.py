@@ -473,6 +473,10 @@ written-length written_length
 written-where-ok written_where_ok
 """.split("\n") if line)
 
+# What the library called All is AllByRecursion now, and its All of today is another.
+ALIAS = "AllByRecursion as All"
+ALL = re.compile(r"(?<![\w'-])All(?![\w'-])")
+
 WORD = re.compile(r"(?<![\w'-])[A-Za-z][\w'-]*")
 DASHLESS = re.compile(r"(?<![\w'])[A-Za-z][\w']*")
 
@@ -496,6 +500,9 @@ def main():
         new = old
         for word in words:
             new = respelled(new, word)
+        if ALIAS in new:
+            lines = new.replace(ALIAS, "AllByRecursion").split("\n")
+            new = "\n".join(t if t.lstrip().startswith(("--", "//")) else ALL.sub("AllByRecursion", t) for t in lines)
         if new != old:
             with open(path, "w", encoding="utf-8") as f:
                 f.write(new)

@@ -1,7 +1,7 @@
 -- The least change is the sum of the distances.
 use Rattle.std.proofs.Common.{◌≡◌, ℕ, ◌+◌, ◌≤◌, List, [], ◌∷◌, ℤ, pos, ◌-ℤ◌, nat_abs, ◌≤ℤ◌, Some, None, Option, sym, refl, ap, ◌∙◌, arith}
 use Rattle.std.proofs.lemmas.Int.{ints, by_lt_z}
-use Rattle.std.specs.List.{AllByRecursion as All}
+use Rattle.std.specs.List.{AllByRecursion}
 use Rattle.bands.specs.Ends.{AtLeast, AtMost, Ordered, distance_of}
 use Rattle.account.specs.Changes.{Judged, Inside, InsideAll, change, LeastChange}
 use Rattle.account.specs.Accounts.{distances, Holds}
@@ -25,7 +25,7 @@ nearby (Some l) (Some h) x o =
     by_lt_z x l (λ c. (l, (grind (arith, ints), grind (arith, ints)), grind (arith, ints)))
     (λ c. by_lt_z h x (λ d. (h, (grind (arith, ints), grind (arith, ints)), grind (arith, ints))) (λ d. (x, (grind (arith, ints), grind (arith, ints)), grind (arith, ints))))
 
-bounds : (js : List Judged) → All (λ (j : Judged). Ordered j.low j.high) js → (vs : List ℤ) → InsideAll js vs → distances js ≤ change js vs
+bounds : (js : List Judged) → AllByRecursion (λ (j : Judged). Ordered j.low j.high) js → (vs : List ℤ) → InsideAll js vs → distances js ≤ change js vs
 bounds [] p [] s = omega arith
 bounds [] p (v ∷ vs) s = absurd s
 bounds (j ∷ js) p [] s = absurd s
@@ -34,7 +34,7 @@ bounds (j ∷ js) p (v ∷ vs) s =
     let rest = bounds js p.1 vs s.1 in
     omega arith
 
-reaches : (js : List Judged) → All (λ (j : Judged). Ordered j.low j.high) js → (vs : List ℤ) × InsideAll js vs × (change js vs ≡ distances js)
+reaches : (js : List Judged) → AllByRecursion (λ (j : Judged). Ordered j.low j.high) js → (vs : List ℤ) × InsideAll js vs × (change js vs ≡ distances js)
 unfolding Nearby
 reaches [] p = ([], tt, refl)
 reaches (j ∷ js) p =

@@ -1,6 +1,6 @@
 -- Deviation accounts: which figures they take, and what their total then is.
 use Rattle.std.specs.Prelude.{◌≡◌, ℕ, ◌+◌, List, [], ◌∷◌, length, ℤ, pos, Some, None, Option, nat_lt}
-use Rattle.std.specs.List.{AllByRecursion as All}
+use Rattle.std.specs.List.{AllByRecursion}
 use Rattle.quantity.specs.Refusals.{unless, first_of}
 use Rattle.bands.specs.Ends.{Ordered, distance_of, distance_refusal}
 use Rattle.account.specs.Changes.{Judged}
@@ -20,7 +20,7 @@ distances (j ∷ js) = distance_of j.low j.high j.figure + distances js
 
 -- an account with this total and this count has taken just these figures, the newest first
 pub record Holds (js : List Judged) (total : ℤ) (count : ℕ) : Type 0 where
-  pub ordered : All (λ (j : Judged). Ordered j.low j.high) js
+  pub ordered : AllByRecursion (λ (j : Judged). Ordered j.low j.high) js
   pub many : count ≡ length js
   pub sum : total ≡ pos (distances js)
 

@@ -1,6 +1,6 @@
 -- The line of a request: Q, the minute in two columns, sixty figures and LF.
 use Rattle.std.specs.Prelude.{◌≡◌, ℕ, zero, suc, ◌+◌, ◌*◌, ◌^◌, ◌<◌, List, [], ◌∷◌, ◌++◌, length, take, drop, ℤ, slice_index, unsigned_abs}
-use Rattle.std.specs.List.{AllByRecursion as All}
+use Rattle.std.specs.List.{AllByRecursion}
 use Rattle.count_text.specs.Columns.{count_text_of, CountIn}
 use Rattle.figure_text.specs.Figures.{FigureIn}
 use Rattle.figure_text.specs.Rows.{row_text, figure_field}
@@ -12,7 +12,7 @@ request_text q = 81 ∷ (count_text_of 2 q.minute ++ (row_text q.samples ++ (10 
 
 -- the line of a request whose figures their columns can hold
 abbrev pub RequestIn : RequestLine → List ℕ → Type 0
-RequestIn q line = (q.minute < 10 ^ 2) × (length q.samples ≡ 60) × All (λ x. unsigned_abs x < 10 ^ 18) q.samples × (line ≡ request_text q)
+RequestIn q line = (q.minute < 10 ^ 2) × (length q.samples ≡ 60) × AllByRecursion (λ x. unsigned_abs x < 10 ^ 18) q.samples × (line ≡ request_text q)
 
 -- what is checked of a line, in this order: its letter, its length, the minute, each figure from the left
 abbrev pub Passes : ℕ → List ℕ → Type 0

@@ -2,7 +2,7 @@
 use Rattle.std.proofs.Common.{◌≡◌, ℕ, zero, suc, ◌+◌, ◌-◌, ◌*◌, ◌/◌, ◌%◌, ◌^◌, ◌<◌, ◌≤◌, true, false, ltb, List, [], ◌∷◌, ◌++◌, length, replicate, decimal, Decides, sym, refl, ap, ◌∙◌, inl, inr, mul_comm, pow-suc, arith, rules}
 use native.Mathlib.Nat.{div-div-eq-div-mul}
 use Rattle.std.specs.Str.Parse.{AllDigits}
-use Rattle.std.specs.List.{AllByRecursion as All}
+use Rattle.std.specs.List.{AllByRecursion}
 use Rattle.std.proofs.lemmas.Fmt.{decimal_by_steps, decimal_is_IsNumeral}
 use Rattle.std.proofs.ByRecursion.{All-append}
 use Rattle.std.proofs.lemmas.Slice.Eq.{compares_Decides}
@@ -74,18 +74,18 @@ pub is_not_count : (w : ℕ) (text : List ℕ) → ((n : ℕ) → CountIn w n te
 is_not_count w text never = elim (cases_Bool (is_count w text)) [ inl e ↦ absurd (never (number_in text) (count_in w text e)) | inr e ↦ e ]
 
 -- ---- a byte that is no digit
-pub digits_without : (c : ℕ) (ds : List ℕ) → c < 48 → AllDigits 10 ds → All (λ b. b ≡ c → ⊥) ds
+pub digits_without : (c : ℕ) (ds : List ℕ) → c < 48 → AllDigits 10 ds → AllByRecursion (λ b. b ≡ c → ⊥) ds
 digits_without c [] low all = tt
 digits_without c (d ∷ ds) low all = (λ e. omega (arith, digit_from_value d all.0), digits_without c ds low all.1)
 
-pub decimal_without : (c n : ℕ) → c < 48 → n < 2 ^ 64 → All (λ b. b ≡ c → ⊥) (decimal n)
+pub decimal_without : (c n : ℕ) → c < 48 → n < 2 ^ 64 → AllByRecursion (λ b. b ≡ c → ⊥) (decimal n)
 decimal_without c n low small = digits_without c (decimal n) low (decimal_is_IsNumeral n small).0.1
 
-pub blanks_without : (c k : ℕ) → (32 ≡ c → ⊥) → All (λ b. b ≡ c → ⊥) (replicate k 32)
+pub blanks_without : (c k : ℕ) → (32 ≡ c → ⊥) → AllByRecursion (λ b. b ≡ c → ⊥) (replicate k 32)
 blanks_without c zero other = tt
 blanks_without c (suc k) other = (other, blanks_without c k other)
 
-pub count_one_line : (w n : ℕ) (text : List ℕ) → w ≤ 18 → CountIn w n text → All (λ b. b ≡ 10 → ⊥) text
+pub count_one_line : (w n : ℕ) (text : List ℕ) → w ≤ 18 → CountIn w n text → AllByRecursion (λ b. b ≡ 10 → ⊥) text
 count_one_line w n text few h =
     let small : n < 10 ^ 18 = omega (arith, pow_ten_le w 18 few, h.0) in
     rw h.1 (All-append (λ b. b ≡ 10 → ⊥) _ (decimal n) (blanks_without 10 (w - length (decimal n)) (λ e. omega arith)) (decimal_without 10 n (omega arith) (omega arith)))

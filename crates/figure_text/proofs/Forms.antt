@@ -1,6 +1,6 @@
 -- The text of a figure gives the figure, and is known by it.
 use Rattle.std.proofs.Common.{◌≡◌, ℕ, zero, suc, ◌-◌, ◌/◌, ◌^◌, ◌<◌, true, false, ltb, List, [], ◌∷◌, ◌++◌, length, replicate, ℤ, pos, negsuc, neg_ℤ, nat_abs, decimal, refl, ap, ◌∙◌, inl, inr, arith}
-use Rattle.std.specs.List.{AllByRecursion as All}
+use Rattle.std.specs.List.{AllByRecursion}
 use Rattle.std.proofs.ByRecursion.{All-append}
 use Rattle.std.proofs.lemmas.Bool.{and_from, and_parts, cases_Bool, cond-false, cond-true, lt-ltb, ltb-true, ne_eqb, or_from}
 use Rattle.count_text.specs.Columns.{last_digits}
@@ -27,27 +27,27 @@ unfolding number_in
 number_figure x small = number_blanks 0 (20 - length (signed_text x)) (signed_text x) ∙ number_signed x small
 
 -- ---- bytes that stand in no figure
-size_without : (c n : ℕ) → c < 46 → n < 10 ^ 18 → All (λ b. b ≡ c → ⊥) (size_text n)
+size_without : (c n : ℕ) → c < 46 → n < 10 ^ 18 → AllByRecursion (λ b. b ≡ c → ⊥) (size_text n)
 size_without c n low small =
     All-append (λ b. b ≡ c → ⊥) (decimal (n / 10 ^ 10)) (46 ∷ last_digits 10 n) (decimal_without c (n / 10 ^ 10) (omega arith) (omega arith))
     (λ e. omega arith, digits_without c (last_digits 10 n) (omega arith) (last_are_digits 10 n))
 
-signed_one_line : (x : ℤ) → nat_abs x < 10 ^ 18 → All (λ b. b ≡ 10 → ⊥) (signed_text x)
+signed_one_line : (x : ℤ) → nat_abs x < 10 ^ 18 → AllByRecursion (λ b. b ≡ 10 → ⊥) (signed_text x)
 signed_one_line (pos n) small = size_without 10 n (omega arith) small
 signed_one_line (negsuc n) small = (λ e. omega arith, size_without 10 (suc n) (omega arith) small)
 
-figure_text_one_line : (x : ℤ) → nat_abs x < 10 ^ 18 → All (λ b. b ≡ 10 → ⊥) (figure_text_of x)
+figure_text_one_line : (x : ℤ) → nat_abs x < 10 ^ 18 → AllByRecursion (λ b. b ≡ 10 → ⊥) (figure_text_of x)
 figure_text_one_line x small = All-append (λ b. b ≡ 10 → ⊥) _ (signed_text x) (blanks_without 10 (20 - length (signed_text x)) (λ e. omega arith)) (signed_one_line x small)
 
-pub figure_one_line : (x : ℤ) (text : List ℕ) → FigureIn x text → All (λ b. b ≡ 10 → ⊥) text
+pub figure_one_line : (x : ℤ) (text : List ℕ) → FigureIn x text → AllByRecursion (λ b. b ≡ 10 → ⊥) text
 figure_one_line x text h = rw h.1 (figure_text_one_line x h.0)
 
-pub row_one_line : (xs : List ℤ) → All (λ x. nat_abs x < 10 ^ 18) xs → All (λ b. b ≡ 10 → ⊥) (row_text xs)
+pub row_one_line : (xs : List ℤ) → AllByRecursion (λ x. nat_abs x < 10 ^ 18) xs → AllByRecursion (λ b. b ≡ 10 → ⊥) (row_text xs)
 row_one_line [] all = tt
 row_one_line (x ∷ xs) all = All-append (λ b. b ≡ 10 → ⊥) (figure_text_of x) (row_text xs) (figure_text_one_line x all.0) (row_one_line xs all.1)
 
 -- ---- the minus
-no_minus : (text : List ℕ) → All (λ b. b ≡ 45 → ⊥) text → has_minus text ≡ false
+no_minus : (text : List ℕ) → AllByRecursion (λ b. b ≡ 45 → ⊥) text → has_minus text ≡ false
 unfolding has_minus
 no_minus [] all = refl
 no_minus (b ∷ bs) all = or_from _ _ (ne_eqb b 45 all.0) (no_minus bs all.1)

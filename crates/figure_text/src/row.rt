@@ -1,7 +1,7 @@
 //! Figures in a row: one after another, twenty columns each.
 
 ghost use Rattle.std.specs.Prelude.{◌≡◌, ◌*◌, ◌^◌, ◌<◌, ◌≤◌, ◌++◌, length, drop, Decides, MatchResult, unsigned_abs};
-ghost use Rattle.std.specs.List.{AllByRecursion as All};
+ghost use Rattle.std.specs.List.{AllByRecursion};
 ghost use Rattle.count_text.specs.Columns.{Writes, bytes_after};
 ghost use Rattle.figure_text.specs.Rows.{row_text, row_refusal, RowRead};
 
@@ -31,7 +31,7 @@ pub fn read_row(text: &[u8], places: &mut [i64]) -> Result<(), usize>
 
 /// Whether each figure can be written.
 pub fn are_writable(figures: &[i64]) -> bool
-    ensures { Decides result (All (λ x. unsigned_abs x < 10 ^ 18) figures.now) }
+    ensures { Decides result (AllByRecursion (λ x. unsigned_abs x < 10 ^ 18) figures.now) }
 {
     for figure in figures {
         if !is_writable(*figure) {
@@ -51,7 +51,7 @@ fn has_columns(figures: &[i64], out: &[u8]) -> bool
 /// Writes figures one after another, each over its columns.
 /// Refuses nothing, since they hold it.
 fn put_row(figures: &[i64], out: &mut [u8]) -> Result<(), Refusal>
-    requires { (All (λ x. unsigned_abs x < 10 ^ 18) figures.now) × (20 * length figures.now ≤ length out.old) }
+    requires { (AllByRecursion (λ x. unsigned_abs x < 10 ^ 18) figures.now) × (20 * length figures.now ≤ length out.old) }
     ensures { MatchResult result (λ _. out.new ≡ row_text figures.now ++ drop (20 * length figures.now) out.old) (λ _. ⊥) }
 {
     for k in 0..figures.len() {

@@ -1,7 +1,7 @@
 -- A text that is written part by part: what is written so far stands before the rest of what a buffer held.
 use Rattle.std.proofs.Common.{◌≡◌, ℕ, ◌+◌, ◌-◌, ◌*◌, ◌^◌, ◌<◌, ◌≤◌, true, false, ◌&&◌, ltb, leb, List, [], ◌∷◌, ◌++◌, length, take, drop, set, ℤ, nat_abs, Some, None, sym, refl, ap, ◌∙◌, inl, inr, arith}
 use borrow.Rule.Slice.PartMut.{put_mid}
-use Rattle.std.specs.List.{AllByRecursion as All}
+use Rattle.std.specs.List.{AllByRecursion}
 use Rattle.std.proofs.lemmas.List.{append_assoc, append-nil, drop_all, drop_at, drop-drop, drop_more, length-append, length-drop, length-set, length-take-le, set_at, take_at}
 use Rattle.std.proofs.lemmas.Bool.{and_from, and_right, cases_Bool, le-leb, leb-true, lt-ltb}
 use Rattle.count_text.specs.Columns.{count_text_of, count_refusal, bytes_after}
@@ -40,7 +40,7 @@ pub part_length : (m e : ℕ) (l : List ℕ) → m ≤ e → e ≤ length l → 
 part_length m e l le room = length-take-le (e - m) (drop m l) (omega (arith, length-drop m l))
 
 -- figures over a part that is as long as their columns
-pub row_put : (xs : List ℤ) (part new : List ℕ) → All (λ x. nat_abs x < 10 ^ 18) xs → length part ≡ 20 * length xs → new ≡ bytes_after (row_refusal xs (length part)) (row_text xs) part → (new ≡ row_text xs) × (length new ≡ 20 * length xs)
+pub row_put : (xs : List ℤ) (part new : List ℕ) → AllByRecursion (λ x. nat_abs x < 10 ^ 18) xs → length part ≡ 20 * length xs → new ≡ bytes_after (row_refusal xs (length part)) (row_text xs) part → (new ≡ row_text xs) × (length new ≡ 20 * length xs)
 row_put xs part new all long e =
     let none : row_refusal xs (length part) ≡ None = row_fits xs (length part) all (omega arith) in
     let l = row_length xs all in
@@ -51,7 +51,7 @@ row_put xs part new all long e =
 
 -- a numbered row, part by part
 module _
-    (letter n w r : ℕ) (xs : List ℤ) (old count : List ℕ) (some : 0 < w) (few : w ≤ 18) (small : n < 10 ^ w) (all : All (λ x. nat_abs x < 10 ^ 18) xs) (room : 2 + w + 20 * length xs ≤ length old) (same : r ≡ w)
+    (letter n w r : ℕ) (xs : List ℤ) (old count : List ℕ) (some : 0 < w) (few : w ≤ 18) (small : n < 10 ^ w) (all : AllByRecursion (λ x. nat_abs x < 10 ^ 18) xs) (room : 2 + w + 20 * length xs ≤ length old) (same : r ≡ w)
     (counted : count ≡ bytes_after (count_refusal w n (length (take (1 + r - 1) (drop 1 (set old 0 letter))))) (count_text_of w n) (take (1 + r - 1) (drop 1 (set old 0 letter))))
   where
     columns : 1 + r - 1 ≡ w
@@ -95,13 +95,13 @@ module _
 
 -- ---- why a numbered row is not written
 module _ (w n : ℕ) (xs : List ℤ) (room : ℕ) where
-  pub numbered_wide : (All (λ x. nat_abs x < 10 ^ 18) xs → ⊥) → numbered_refusal w n xs room ≡ Some 11
+  pub numbered_wide : (AllByRecursion (λ x. nat_abs x < 10 ^ 18) xs → ⊥) → numbered_refusal w n xs room ≡ Some 11
   numbered_wide never =
       let f : writable xs ≡ false = elim (cases_Bool (writable xs)) [ inl e ↦ absurd (never (writable_all xs e)) | inr e ↦ e ] in
       let g = and_right (ltb n (10 ^ w)) (writable xs) f in
       rw g refl
 
-  module _ (small : n < 10 ^ w) (all : All (λ x. nat_abs x < 10 ^ 18) xs) where
+  module _ (small : n < 10 ^ w) (all : AllByRecursion (λ x. nat_abs x < 10 ^ 18) xs) where
     held : (ltb n (10 ^ w) && writable xs) ≡ true
     held = and_from (ltb n (10 ^ w)) (writable xs) (lt-ltb n (10 ^ w) small) (all_writable xs all)
 
@@ -113,10 +113,10 @@ module _ (w n : ℕ) (xs : List ℤ) (room : ℕ) where
     pub numbered_fits : 2 + w + 20 * length xs ≤ room → numbered_refusal w n xs room ≡ None
     numbered_fits le = rw (held, le-leb (2 + w + 20 * length xs) room le) refl
 
-pub numbered_length : (letter w n : ℕ) (xs : List ℤ) → 0 < w → w ≤ 18 → n < 10 ^ w → All (λ x. nat_abs x < 10 ^ 18) xs → length (numbered_text letter w n xs) ≡ 2 + w + 20 * length xs
+pub numbered_length : (letter w n : ℕ) (xs : List ℤ) → 0 < w → w ≤ 18 → n < 10 ^ w → AllByRecursion (λ x. nat_abs x < 10 ^ 18) xs → length (numbered_text letter w n xs) ≡ 2 + w + 20 * length xs
 numbered_length letter w n xs some few small all = (whole_parts (2 + w + 20 * length xs) (numbered_text letter w n xs) (row_whole letter w n xs (numbered_text letter w n xs) some few (small, all, refl))).0
 
 pub numbered_bytes :
-    (letter w n : ℕ) (xs : List ℤ) (old : List ℕ) → 0 < w → w ≤ 18 → n < 10 ^ w → All (λ x. nat_abs x < 10 ^ 18) xs →
+    (letter w n : ℕ) (xs : List ℤ) (old : List ℕ) → 0 < w → w ≤ 18 → n < 10 ^ w → AllByRecursion (λ x. nat_abs x < 10 ^ 18) xs →
     numbered_text letter w n xs ++ drop (2 + w + 20 * length xs) old ≡ bytes_after None (numbered_text letter w n xs) old
 numbered_bytes letter w n xs old some few small all = ap (λ (k : ℕ). numbered_text letter w n xs ++ drop k old) (sym (numbered_length letter w n xs some few small all))

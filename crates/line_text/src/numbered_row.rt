@@ -1,7 +1,7 @@
 //! Numbered rows, written and read.
 
 ghost use Rattle.std.specs.Prelude.{◌≡◌, ◌+◌, ◌*◌, ◌^◌, ◌<◌, ◌≤◌, ◌++◌, length, drop, IfOk, IfErr, Decides, MatchResult, slice_index, unsigned_abs};
-ghost use Rattle.std.specs.List.{AllByRecursion as All};
+ghost use Rattle.std.specs.List.{AllByRecursion};
 ghost use Rattle.count_text.specs.Columns.{Writes, bytes_after};
 ghost use Rattle.figure_text.specs.Rows.{Filled};
 ghost use Rattle.line_text.specs.Faults.{Judged};
@@ -64,7 +64,7 @@ fn put_numbered_row(
     figures: &[i64],
     out: &mut [u8],
 ) -> Result<(), Refusal>
-    requires { (number < 10 ^ width.columns) × ((All (λ x. unsigned_abs x < 10 ^ 18) figures.now) × (2 + width.columns + 20 * length figures.now ≤ length out.old)) }
+    requires { (number < 10 ^ width.columns) × ((AllByRecursion (λ x. unsigned_abs x < 10 ^ 18) figures.now) × (2 + width.columns + 20 * length figures.now ≤ length out.old)) }
     ensures { MatchResult result (λ _. out.new ≡ numbered_text letter width.columns number figures.now ++ drop (2 + width.columns + 20 * length figures.now) out.old) (λ _. ⊥) }
 {
     let start = 1 + width.columns();

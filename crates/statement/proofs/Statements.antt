@@ -1,6 +1,6 @@
 -- The text of a statement has no fault, and is the text of one statement only.
 use Rattle.std.proofs.Common.{◌≡◌, ℕ, ◌+◌, ◌*◌, ◌^◌, ◌<◌, ◌≤◌, true, false, List, [], ◌∷◌, ◌++◌, length, get_or, drop, ℤ, nat_abs, Some, None, sym, refl, ap, ◌∙◌, arith}
-use Rattle.std.specs.List.{AllByRecursion as All}
+use Rattle.std.specs.List.{AllByRecursion}
 use Rattle.std.proofs.ByRecursion.{All-append}
 use Rattle.std.proofs.lemmas.List.{append_assoc, append-nil}
 use Rattle.std.proofs.lemmas.Bool.{and_from, eq-eqb, lt-ltb}
@@ -31,7 +31,7 @@ use Rattle.statement.proofs.Reading.{line_next}
 use Rattle.statement.proofs.Turns.{turn-taken}
 
 -- ---- each line of a statement ends with its only LF
-one_line : (line front rest : List ℕ) → line ≡ front ++ (10 ∷ []) → All (λ b. b ≡ 10 → ⊥) front → lines_of (line ++ rest) ≡ line ∷ lines_of rest
+one_line : (line front rest : List ℕ) → line ≡ front ++ (10 ∷ []) → AllByRecursion (λ b. b ≡ 10 → ⊥) front → lines_of (line ++ rest) ≡ line ∷ lines_of rest
 one_line line front rest e all =
     ap (λ (t : List ℕ). lines_of (t ++ rest)) e ∙ ap lines_of (append_assoc front (10 ∷ []) rest) ∙ lines-first front rest all ∙ ap (λ (t : List ℕ). t ∷ lines_of rest) (sym e)
 
@@ -52,7 +52,7 @@ opening_first o rest =
     let c = count_text_of 1 o.groups.count in
     let front = 68 ∷ ((a ++ b) ++ c) in
     let few = o.groups.few in
-    let all : All (λ x. x ≡ 10 → ⊥) front = (
+    let all : AllByRecursion (λ x. x ≡ 10 → ⊥) front = (
       λ e. omega arith,
       All-append (λ x. x ≡ 10 → ⊥) (a ++ b) c
           (All-append (λ x. x ≡ 10 → ⊥) a b (count_one_line 6 o.day.number a (omega arith) (o.day.few, refl)) (count_one_line 3 (quarter_hours_of o.length) b (omega arith) (small_length o.length, refl)))
@@ -69,7 +69,7 @@ passed stage next content number line lines is turn rest =
 
 module _ (hours : ℕ) (requests : List ℤ) (top : hours ≤ 100) (six : length requests ≡ 6) (fit : Fit requests) where
   records_clear :
-      (closed number : ℕ) (rs : List SettlementRecord) → closed + length rs ≤ hours → All (λ r. Fit (figures_of r)) rs →
+      (closed number : ℕ) (rs : List SettlementRecord) → closed + length rs ≤ hours → AllByRecursion (λ r. Fit (figures_of r)) rs →
       fault_from (InRecords hours closed) number (lines_of (records_text (closed + 1) rs ++ tail_text (closed + length rs) requests)) ≡ None
   unfolding fault_from
   records_clear closed number [] le fits =
@@ -142,7 +142,7 @@ record_lines : (n m : ℕ) (r : SettlementRecord) (rs : List SettlementRecord) (
 record_lines n m r rs xs small fit = ap lines_of (append_assoc (record_text n r) (records_text (n + 1) rs) (tail_text m xs)) ∙ numbered_first 73 n (figures_of r) (records_text (n + 1) rs ++ tail_text m xs) (λ e. omega arith) small fit
 
 same_records :
-    (n : ℕ) (rs ss : List SettlementRecord) (j k : ℕ) (xs ys : List ℤ) → n + length rs < 10 ^ 3 → n + length ss < 10 ^ 3 → j < 10 ^ 3 → k < 10 ^ 3 → All (λ r. Fit (figures_of r)) rs → All (λ r. Fit (figures_of r)) ss → length xs ≡ 6 → length ys ≡ 6 → Fit xs → Fit ys →
+    (n : ℕ) (rs ss : List SettlementRecord) (j k : ℕ) (xs ys : List ℤ) → n + length rs < 10 ^ 3 → n + length ss < 10 ^ 3 → j < 10 ^ 3 → k < 10 ^ 3 → AllByRecursion (λ r. Fit (figures_of r)) rs → AllByRecursion (λ r. Fit (figures_of r)) ss → length xs ≡ 6 → length ys ≡ 6 → Fit xs → Fit ys →
     lines_of (records_text n rs ++ tail_text j xs) ≡ lines_of (records_text n ss ++ tail_text k ys) → (rs ≡ ss) × (xs ≡ ys)
 unfolding record_content tail_content requests_of record_of
 same_records n [] [] j k xs ys a b js ks fr fs sx sy fx fy e =

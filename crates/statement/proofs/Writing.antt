@@ -1,7 +1,7 @@
 -- A statement that is written line by line.
 use Rattle.std.proofs.Common.{◌≡◌, ℕ, ◌+◌, ◌-◌, ◌*◌, ◌^◌, ◌<◌, ◌≤◌, true, false, ◌&&◌, eqb, leb, List, [], ◌∷◌, ◌++◌, length, get_or, take, drop, ℤ, nat_abs, Some, None, Err, Option, sym, refl, ap, ◌∙◌, inl, inr, arith}
 use borrow.Rule.Slice.PartMut.{put_mid}
-use Rattle.std.specs.List.{AllByRecursion as All}
+use Rattle.std.specs.List.{AllByRecursion}
 use Rattle.std.proofs.ByRecursion.{All-get_or, All-take}
 use Rattle.std.proofs.lemmas.List.{append_assoc, append-nil, drop_all, drop-drop, length-append, length-drop, length-take-le, take_all, take_more}
 use Rattle.std.proofs.lemmas.Bool.{and_from, and_parts, cases_Bool, eq-eqb, eqb-true, le-leb, leb-true}
@@ -35,14 +35,14 @@ record_fits n r room small fit le = numbered_fits 3 n (figures_of r) room small 
 pub record_length : (n : ℕ) (r : SettlementRecord) → n < 10 ^ 3 → Fit (figures_of r) → length (record_text n r) ≡ 165
 record_length n r small fit = numbered_length 73 3 n (figures_of r) (omega arith) (omega arith) small fit
 
-pub records_length : (n : ℕ) (rs : List SettlementRecord) → n + length rs ≤ 10 ^ 3 → All (λ r. Fit (figures_of r)) rs → length (records_text n rs) ≡ 165 * length rs
+pub records_length : (n : ℕ) (rs : List SettlementRecord) → n + length rs ≤ 10 ^ 3 → AllByRecursion (λ r. Fit (figures_of r)) rs → length (records_text n rs) ≡ 165 * length rs
 records_length n [] le fits = refl
 records_length n (r ∷ rs) le fits =
     let a = record_length n r (omega arith) fits.0 in
     let b = records_length (n + 1) rs (omega arith) fits.1 in
     length-append (record_text n r) (records_text (n + 1) rs) ∙ (let e : length (record_text n r) + length (records_text (n + 1) rs) ≡ 165 * length (r ∷ rs) = omega arith in e)
 
-module _ (rs : List SettlementRecord) (old : List ℕ) (fits : All (λ r. Fit (figures_of r)) rs) (few : length rs ≤ 100) (room : 165 * length rs ≤ length old) where
+module _ (rs : List SettlementRecord) (old : List ℕ) (fits : AllByRecursion (λ r. Fit (figures_of r)) rs) (few : length rs ≤ 100) (room : 165 * length rs ≤ length old) where
   front_length : (k : ℕ) → k ≤ length rs → length (records_text 1 (take k rs)) ≡ 165 * k
   front_length k le =
       let l = length-take-le k rs le in
@@ -150,11 +150,11 @@ module _ (o : Opening) (rs : List SettlementRecord) (requests : List ℤ) (old o
           ap (λ (p : ℕ). put_mid (12 + 165 * length rs) p (put_mid 12 (12 + 165 * length rs - 12) (opening ++ drop 12 old) records) tail) e ∙ put ∙ ap (λ (x : List ℕ). x ++ drop (12 + 165 * length rs + 125) old) text
 
 -- ---- why a statement is not written
-every_fits_lem : (rs : List SettlementRecord) → All (λ r. Fit (figures_of r)) rs → every_fits rs ≡ true
+every_fits_lem : (rs : List SettlementRecord) → AllByRecursion (λ r. Fit (figures_of r)) rs → every_fits rs ≡ true
 every_fits_lem [] h = refl
 every_fits_lem (r ∷ rs) h = and_from (writable (figures_of r)) (every_fits rs) (all_writable (figures_of r) h.0) (every_fits_lem rs h.1)
 
-fits_every : (rs : List SettlementRecord) → every_fits rs ≡ true → All (λ r. Fit (figures_of r)) rs
+fits_every : (rs : List SettlementRecord) → every_fits rs ≡ true → AllByRecursion (λ r. Fit (figures_of r)) rs
 fits_every [] h = tt
 fits_every (r ∷ rs) h = let p = and_parts (writable (figures_of r)) (every_fits rs) h in (writable_all (figures_of r) p.0, fits_every rs p.1)
 

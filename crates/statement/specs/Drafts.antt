@@ -1,6 +1,6 @@
 -- A statement that is being read: what a line adds, and what was read by each stage.
 use Rattle.std.specs.Prelude.{◌≡◌, ℕ, ◌+◌, ◌<◌, ◌≤◌, List, [], ◌∷◌, ◌++◌, length, take, Some, None}
-use Rattle.std.specs.List.{AllByRecursion as All}
+use Rattle.std.specs.List.{AllByRecursion}
 use Rattle.statement_lines.specs.declared.opening.Opening.{Opening as OpeningOf}
 use Rattle.statement_lines.specs.declared.record.SettlementRecord.{SettlementRecord}
 use Rattle.statement_lines.specs.declared.statement_line.StatementLine.{StatementLine}
@@ -35,7 +35,7 @@ pub record Begun (hours closed : ℕ) (d : Draft) (front : List ℕ) : Type 0 wh
   pub count : d.records.count ≡ closed
   pub many : length (drafted d) ≡ closed
   pub within : closed ≤ hours
-  pub fit : All (λ r. Fit (figures_of r)) (drafted d)
+  pub fit : AllByRecursion (λ r. Fit (figures_of r)) (drafted d)
   pub text : front ≡ opening_text opened ++ records_text 1 (drafted d)
 
 -- all of it

@@ -1,6 +1,6 @@
 -- A day's statement is its opening line, a record line for each of its records in order, and its tail line.
 use Rattle.std.specs.Prelude.{◌≡◌, ℕ, ◌+◌, ◌*◌, ◌^◌, ◌<◌, ◌≤◌, Bool, true, ◌&&◌, List, [], ◌∷◌, ◌++◌, length, take, ℤ, Option, ◌==◌, nat_le, unsigned_abs}
-use Rattle.std.specs.List.{AllByRecursion as All}
+use Rattle.std.specs.List.{AllByRecursion}
 use Rattle.count_text.specs.Columns.{write_refusal}
 use Rattle.figure_text.specs.Rows.{writable}
 use Rattle.statement_lines.specs.declared.opening.Opening.{Opening}
@@ -11,7 +11,7 @@ use Rattle.statement.specs.declared.statement.Statement.{Statement}
 
 -- figures that their columns can hold
 abbrev pub Fit : List ℤ → Type 0
-Fit xs = All (λ x. unsigned_abs x < 10 ^ 18) xs
+Fit xs = AllByRecursion (λ x. unsigned_abs x < 10 ^ 18) xs
 
 -- records of such figures, as a test
 abbrev pub every_fits : List SettlementRecord → Bool
@@ -30,7 +30,7 @@ statement_text o rs requests = opening_text o ++ (records_text 1 rs ++ tail_text
 -- what can be a statement: no more records than the day has quarter hours, six requests, and figures that their columns can hold
 pub record Whole (o : Opening) (rs : List SettlementRecord) (requests : List ℤ) : Type 0 where
   pub within : length rs ≤ quarter_hours_of o.length
-  pub records_fit : All (λ r. Fit (figures_of r)) rs
+  pub records_fit : AllByRecursion (λ r. Fit (figures_of r)) rs
   pub six : length requests ≡ 6
   pub requests_fit : Fit requests
 

@@ -1,7 +1,7 @@
 //! A whole statement, written.
 
 ghost use Rattle.std.specs.Prelude.{◌≡◌, ◌+◌, ◌*◌, ◌≤◌, ◌++◌, length, drop, Decides, MatchResult};
-ghost use Rattle.std.specs.List.{AllByRecursion as All};
+ghost use Rattle.std.specs.List.{AllByRecursion};
 ghost use Rattle.quantity.specs.Refusals.{Answers};
 ghost use Rattle.count_text.specs.Columns.{bytes_after};
 ghost use Rattle.statement_lines.specs.Openings.{quarter_hours_of};
@@ -20,7 +20,7 @@ const REQUESTS: usize = 6;
 
 /// Whether the columns of a record line hold each figure of each record.
 fn are_records_writable(records: &[SettlementRecord]) -> bool
-    ensures { Decides result (All (λ x. Fit (figures_of x)) records.now) }
+    ensures { Decides result (AllByRecursion (λ x. Fit (figures_of x)) records.now) }
 {
     for record in records {
         if !are_writable(&record.figures()) {
@@ -57,7 +57,7 @@ fn can_be_written(opening: &Opening, records: &[SettlementRecord], requests: &[i
 /// Writes record lines one after another, numbered from 1.
 /// Refuses nothing, since there is room and the columns hold each number and each figure.
 fn put_records(records: &[SettlementRecord], out: &mut [u8]) -> Result<(), Refusal>
-    requires { (All (λ x. Fit (figures_of x)) records.now) × ((length records.now ≤ 100) × (165 * length records.now ≤ length out.old)) }
+    requires { (AllByRecursion (λ x. Fit (figures_of x)) records.now) × ((length records.now ≤ 100) × (165 * length records.now ≤ length out.old)) }
     ensures { MatchResult result (λ _. out.new ≡ records_text 1 records.now ++ drop (165 * length records.now) out.old) (λ _. ⊥) }
 {
     for k in 0..records.len() {

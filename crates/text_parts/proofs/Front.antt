@@ -2,7 +2,7 @@
 use Rattle.std.proofs.Common.{◌≡◌, ℕ, suc, ◌+◌, ◌-◌, ◌<◌, ◌≤◌, Bool, true, false, cond, eqb, List, [], ◌∷◌, ◌++◌, length, get_or, take, drop, sym, refl, ap, ◌∙◌, arith}
 use Rattle.std.proofs.lemmas.List.{at_drop_more, at_drop_all, drop-drop}
 use Rattle.std.proofs.lemmas.Bool.{eq-eqb, ne_eqb, cond_both, cond-false}
-use Rattle.std.specs.List.{flat_map, AllByRecursion as All}
+use Rattle.std.specs.List.{flat_map, AllByRecursion}
 use Rattle.text_parts.specs.Lines.{line_of, begun, lines_of}
 
 -- ---- the length of the first line, byte by byte
@@ -60,7 +60,7 @@ lines_from n at next rest text same line some e f g h is =
     rw is (rw f at t)
 
 -- a line that ends with its only LF is the first of what it begins
-pub lines-first : (front rest : List ℕ) → All (λ b. b ≡ 10 → ⊥) front → lines_of (front ++ (10 ∷ rest)) ≡ (front ++ (10 ∷ [])) ∷ lines_of rest
+pub lines-first : (front rest : List ℕ) → AllByRecursion (λ b. b ≡ 10 → ⊥) front → lines_of (front ++ (10 ∷ rest)) ≡ (front ++ (10 ∷ [])) ∷ lines_of rest
 lines-first [] rest none = refl
 lines-first (b ∷ bs) rest none = cond-false (eqb b 10) _ _ (ne_eqb b 10 none.0) ∙ ap (λ (ls : List (List ℕ)). begun b ls) (lines-first bs rest none.1)
 
