@@ -187,7 +187,7 @@ length-step length_step
 length-units length_units
 letter-first letter_first
 letter-is letter_is
-letter-of letter_of
+letter-of letter_of_lem
 letter-tells letter_tells
 letterOf letter_of
 line-appended line_appended

@@ -1,9 +1,9 @@
 -- The least change is the sum of the distances.
-use Rattle.std.proofs.Common.{◌≡◌, ℕ, ◌+◌, ◌≤◌, List, [], ◌∷◌, ℤ, pos, ◌-ℤ◌, nat_abs, ◌≤ℤ◌, Some, None, Option, sym, refl, ap, ◌∙◌, arith}
+use Rattle.std.proofs.Common.{◌≡◌, ℕ, ◌≤◌, List, [], ◌∷◌, ℤ, pos, ◌-ℤ◌, nat_abs, Some, None, Option, sym, refl, ap, ◌∙◌, arith}
 use Rattle.std.proofs.lemmas.Int.{ints, by_lt_z}
 use Rattle.std.specs.List.{AllByRecursion}
 use Rattle.bands.specs.Ends.{AtLeast, AtMost, Ordered, distance_of}
-use Rattle.account.specs.Changes.{Judged, Inside, InsideAll, change, LeastChange}
+use Rattle.account.specs.Changes.{Judged, InsideAll, change, LeastChange}
 use Rattle.account.specs.Accounts.{distances, Holds}
 
 no_nearer : (low high : Option ℤ) (x v : ℤ) → Ordered low high → AtLeast low v → AtMost high v → distance_of low high x ≤ nat_abs (v -ℤ x)

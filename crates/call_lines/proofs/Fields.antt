@@ -1,15 +1,14 @@
 -- The fields of a request's line.
-use Rattle.std.proofs.Common.{◌≡◌, ℕ, zero, suc, ◌+◌, ◌*◌, ◌^◌, ◌<◌, ◌≤◌, List, [], ◌∷◌, ◌++◌, length, get_or, take, drop, ℤ, pos, nat_abs, sym, refl, ap, ◌∙◌, arith}
-use Rattle.std.specs.List.{AllByRecursion}
+use Rattle.std.proofs.Common.{◌≡◌, ℕ, zero, suc, ◌+◌, ◌*◌, ◌^◌, ◌<◌, List, [], ◌∷◌, ◌++◌, length, get_or, take, drop, ℤ, pos, nat_abs, sym, refl, ap, ◌∙◌, arith}
 use Rattle.std.proofs.ByRecursion.{All-from_get_or}
-use Rattle.std.proofs.lemmas.List.{take_at, drop_at, drop-drop, take-append-drop, drop_all, drop_more, get_or-drop, get_or_at, length-append, length-drop, ext_get_or}
+use Rattle.std.proofs.lemmas.List.{take_at, drop_at, drop-drop, take-append-drop, drop_all, drop_more, get_or-drop, get_or_at, length-append, ext_get_or}
 use Rattle.count_text.specs.Columns.{count_text_of, CountIn}
 use Rattle.count_text.proofs.Columns.{length_count}
 use Rattle.figure_text.specs.Figures.{FigureIn}
 use Rattle.figure_text.specs.Rows.{row_text, figure_field, OneFigure, Filled}
 use Rattle.figure_text.proofs.Rows.{row_from, row_field, row_length}
 use Rattle.call_lines.specs.declared.request_line.RequestLine.{RequestLine}
-use Rattle.call_lines.specs.RequestLines.{RequestIn, request_text, Passes, FirstFault}
+use Rattle.call_lines.specs.RequestLines.{RequestIn, Passes, FirstFault}
 
 -- ---- from a request to its fields
 module _ (line : List ℕ) (q : RequestLine) (h : RequestIn q line) where
@@ -19,8 +18,8 @@ module _ (line : List ℕ) (q : RequestLine) (h : RequestIn q line) where
   count_length : length (count_text_of 2 q.minute) ≡ 2
   count_length = length_count 2 q.minute (count_text_of 2 q.minute) (omega arith) (omega arith) count_is
 
-  pub letter_of : get_or line 0 0 ≡ 81
-  letter_of = ap (λ (l : List ℕ). get_or l 0 0) h.3
+  pub letter_of_lem : get_or line 0 0 ≡ 81
+  letter_of_lem = ap (λ (l : List ℕ). get_or l 0 0) h.3
 
   past_letter : drop 1 line ≡ count_text_of 2 q.minute ++ (row_text q.samples ++ (10 ∷ []))
   past_letter = ap (λ (l : List ℕ). drop 1 l) h.3
@@ -47,7 +46,7 @@ module _ (line : List ℕ) (q : RequestLine) (h : RequestIn q line) where
       (w, sym (get_or-drop 3 line 1200 0) ∙ g)
 
   pub passes_all : (j : ℕ) → j < 63 → Passes j line
-  passes_all zero lt = letter_of
+  passes_all zero lt = letter_of_lem
   passes_all (suc zero) lt = whole_of
   passes_all (suc (suc zero)) lt = (q.minute, minute_of)
   passes_all (suc (suc (suc k))) lt = (get_or q.samples k (pos 0), sample_of k (omega arith))

@@ -1,5 +1,5 @@
 -- What a client that adds one figure again and again was told, and what it chose.
-use Rattle.std.specs.Prelude.{◌≡◌, ℕ, ◌+◌, List, length, ℤ, Some, None, Option}
+use Rattle.std.specs.Prelude.{◌≡◌, ◌+◌, List, length, ℤ, Some, None, Option}
 use Rattle.std.specs.List.{AllByRecursion}
 use Rattle.account.specs.declared.client.Call.{Call}
 use Rattle.account.specs.declared.client.Call.TheVariants.{Add}

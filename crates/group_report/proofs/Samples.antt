@@ -1,9 +1,9 @@
 -- The status samples of a minute, one at a time, and what they make of a participation.
-use Rattle.std.proofs.Common.{◌≡◌, ℕ, zero, suc, ◌+◌, ◌<◌, Bool, true, false, eqb, List, [], ◌∷◌, length, get_or, take, Ok, Err, fold, Result, refl, inl, inr, add-one, arith}
+use Rattle.std.proofs.Common.{◌≡◌, ℕ, zero, suc, ◌+◌, ◌<◌, true, false, eqb, List, [], ◌∷◌, length, get_or, take, Ok, Err, fold, Result, refl, inl, inr, add-one, arith}
 use Rattle.std.proofs.lemmas.Bool.{and_parts, and_from, and_left, and_right, eqb-true, eq-eqb, both_ways, cases_Bool, or_left}
 use Rattle.quantity.specs.declared.refusal.Refusal.{Refusal}
 use Rattle.group_report.specs.declared.participation.Participation.{Participation}
-use Rattle.group_report.specs.declared.participation.Participation.TheVariants.{Untouched, Whole, Broken}
+use Rattle.group_report.specs.declared.participation.Participation.TheVariants.{Whole, Broken}
 use Rattle.group_report.specs.Participations.{readable, all_readable, sampled, after_sample, participation_of, OnThroughout}
 
 readable-suc : (xs : List ℕ) (i : ℕ) → i < length xs → all_readable (take i xs) ≡ true → readable (get_or xs i 0) ≡ true → all_readable (take (suc i) xs) ≡ true

@@ -1,7 +1,6 @@
 -- The groups of a pool, one at a time.
-use Rattle.std.proofs.Common.{◌≡◌, ℕ, zero, suc, ◌+◌, ◌<◌, List, [], ◌∷◌, map, length, get_or, take, ℤ, pos, ◌+ℤ◌, Option, refl, add-one, arith}
+use Rattle.std.proofs.Common.{◌≡◌, ℕ, zero, suc, ◌+◌, ◌<◌, List, [], ◌∷◌, length, get_or, take, ℤ, ◌+ℤ◌, Option, add-one, arith}
 use Rattle.std.proofs.lemmas.Int.{ints}
-use Rattle.quantity.specs.Series.{total}
 use Rattle.group_report.specs.declared.report.GroupReport.{GroupReport}
 use Rattle.group_report.specs.declared.reserve.PrequalifiedReserve.{PrequalifiedReserve}
 use Rattle.group_report.specs.Minutes.{offered_of, realised_of, offered_reserve_of, realised_power_of}

@@ -1,5 +1,5 @@
 -- The terms of a quarter hour, and when they are refused.
-use Rattle.std.specs.Prelude.{ℕ, ◌^◌, Bool, ◌&&◌, List, length, ℤ, pos, neg_ℤ, Option, int_le, nat_le}
+use Rattle.std.specs.Prelude.{ℕ, Bool, ◌&&◌, List, length, ℤ, pos, neg_ℤ, Option, int_le, nat_le}
 use Rattle.quantity.specs.declared.energy.Energy.{Energy}
 use Rattle.quantity.specs.declared.power.Power.{Power}
 use Rattle.quantity.specs.Refusals.{unless}

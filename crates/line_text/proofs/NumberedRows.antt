@@ -1,11 +1,10 @@
 -- A numbered row and its fields.
-use Rattle.std.proofs.Common.{◌≡◌, ℕ, zero, suc, ◌+◌, ◌-◌, ◌*◌, ◌^◌, ◌<◌, ◌≤◌, true, false, eqb, List, [], ◌∷◌, ◌++◌, length, get_or, take, drop, ℤ, pos, nat_abs, Some, None, sym, refl, ap, ◌∙◌, add-zero, arith}
-use Rattle.std.specs.List.{AllByRecursion}
+use Rattle.std.proofs.Common.{◌≡◌, ℕ, zero, suc, ◌+◌, ◌-◌, ◌*◌, ◌^◌, ◌<◌, ◌≤◌, true, false, eqb, List, [], ◌∷◌, ◌++◌, length, get_or, take, drop, ℤ, pos, nat_abs, Some, None, sym, refl, ap, ◌∙◌, arith}
 use Rattle.std.proofs.ByRecursion.{All-from_get_or}
 use Rattle.std.proofs.lemmas.List.{take_at, drop_at, drop-drop, take-append-drop, drop_all, drop_more, get_or-drop, get_or_at, length-append, ext_get_or, take_rest}
 use Rattle.std.proofs.lemmas.Bool.{and_from, and_parts, eq-eqb, eqb-true}
 use Rattle.count_text.specs.Columns.{count_text_of, CountIn}
-use Rattle.count_text.specs.Forms.{number_in, is_count}
+use Rattle.count_text.specs.Forms.{is_count}
 use Rattle.count_text.proofs.Columns.{length_count}
 use Rattle.count_text.proofs.Forms.{count_number, is_count_lem, is_not_count}
 use Rattle.figure_text.specs.Figures.{FigureIn}
@@ -13,8 +12,7 @@ use Rattle.figure_text.specs.Forms.{is_figure}
 use Rattle.figure_text.specs.Rows.{row_text, figure_field, OneFigure, Filled}
 use Rattle.figure_text.proofs.Forms.{figure_number, is_figure_lem, is_not_figure}
 use Rattle.figure_text.proofs.Rows.{field_suc, row_from, row_field, row_length}
-use Rattle.line_text.specs.Faults.{Fault}
-use Rattle.line_text.specs.NumberedRows.{is_whole, numbered_text, NumberedIn, row_fault, numbered_fault, figures_before}
+use Rattle.line_text.specs.NumberedRows.{is_whole, NumberedIn, row_fault, numbered_fault, figures_before}
 
 -- ---- the first figure that is not in its form
 

@@ -1,6 +1,5 @@
 -- One line more of a statement that is being read.
-use Rattle.std.proofs.Common.{◌≡◌, ℕ, ◌+◌, ◌<◌, ◌≤◌, Bool, true, false, cond, ◌&&◌, eqb, ltb, List, [], ◌∷◌, ◌++◌, length, take, Some, None, Option, sym, refl, ap, ◌∙◌, add-zero, arith}
-use Rattle.std.specs.List.{AllByRecursion}
+use Rattle.std.proofs.Common.{◌≡◌, ℕ, ◌+◌, ◌<◌, ◌≤◌, Bool, true, false, cond, eqb, ltb, List, [], ◌∷◌, ◌++◌, length, take, Some, None, sym, refl, ap, ◌∙◌, arith}
 use Rattle.std.proofs.ByRecursion.{All-append}
 use Rattle.std.proofs.lemmas.List.{append_assoc, append-nil, length_push}
 use Rattle.std.proofs.lemmas.Bool.{and_parts, eqb-true, ltb-true}
@@ -17,8 +16,8 @@ use Rattle.statement.specs.declared.read.Draft.{Draft}
 use Rattle.statement.specs.declared.records.Records.{Records}
 use Rattle.statement.specs.declared.stage.Stage.{Stage}
 use Rattle.statement.specs.declared.stage.Stage.TheVariants.{BeforeOpening, InRecords, AfterTail}
-use Rattle.statement.specs.Drafts.{drafted, Blank, Added, Begun, Done, Draws}
-use Rattle.statement.specs.Statements.{Fit, records_text, statement_text, StatementIn}
+use Rattle.statement.specs.Drafts.{drafted, Added, Begun, Done, Draws}
+use Rattle.statement.specs.Statements.{Fit, records_text, statement_text}
 use Rattle.statement.specs.Turns.{record_comes, stage_after}
 
 -- a record line more

@@ -1,9 +1,9 @@
 -- The first fault of what is left, line by line.
-use Rattle.std.proofs.Common.{◌≡◌, ℕ, ◌+◌, List, [], ◌∷◌, ◌++◌, length, take, drop, Some, None, Ok, Err, Option, sym, refl, ap, ◌∙◌, arith}
+use Rattle.std.proofs.Common.{◌≡◌, ℕ, ◌+◌, List, [], ◌∷◌, ◌++◌, length, take, drop, Some, None, Ok, Err, Option, sym, refl, ap, ◌∙◌}
 use Rattle.std.proofs.lemmas.List.{take-append-drop, drop-drop}
 use Rattle.text_parts.specs.declared.line.Line.{Line}
 use Rattle.text_parts.specs.declared.lines.Lines.{Lines}
-use Rattle.text_parts.specs.Lines.{line_of, lines_of, rest_of, Advanced}
+use Rattle.text_parts.specs.Lines.{lines_of, rest_of, Advanced}
 use Rattle.text_parts.proofs.Front.{line_front}
 use Rattle.line_text.specs.Faults.{Fault, Judged}
 use Rattle.line_text.specs.declared.fault.LineFault.{LineFault}

@@ -1,10 +1,10 @@
 -- The text of a statement has no fault, and is the text of one statement only.
-use Rattle.std.proofs.Common.{◌≡◌, ℕ, ◌+◌, ◌*◌, ◌^◌, ◌<◌, ◌≤◌, true, false, List, [], ◌∷◌, ◌++◌, length, get_or, drop, ℤ, nat_abs, Some, None, sym, refl, ap, ◌∙◌, arith}
+use Rattle.std.proofs.Common.{◌≡◌, ℕ, ◌+◌, ◌^◌, ◌<◌, ◌≤◌, true, List, [], ◌∷◌, ◌++◌, length, drop, ℤ, Some, None, sym, refl, ap, ◌∙◌, arith}
 use Rattle.std.specs.List.{AllByRecursion}
 use Rattle.std.proofs.ByRecursion.{All-append}
 use Rattle.std.proofs.lemmas.List.{append_assoc, append-nil}
 use Rattle.std.proofs.lemmas.Bool.{and_from, eq-eqb, lt-ltb}
-use Rattle.count_text.specs.Columns.{count_text_of, CountIn}
+use Rattle.count_text.specs.Columns.{count_text_of}
 use Rattle.count_text.proofs.Forms.{count_one_line}
 use Rattle.figure_text.specs.Rows.{row_text}
 use Rattle.figure_text.proofs.Forms.{row_one_line}
@@ -25,8 +25,8 @@ use Rattle.statement_lines.proofs.Readings.{same_line}
 use Rattle.statement.specs.declared.stage.Stage.{Stage}
 use Rattle.statement.specs.declared.stage.Stage.TheVariants.{BeforeOpening, InRecords, AfterTail}
 use Rattle.statement.specs.Reading.{fault_from, text_fault}
-use Rattle.statement.specs.Statements.{Fit, records_text, statement_text, Whole, StatementIn}
-use Rattle.statement.specs.Turns.{record_comes, stage_after, next_stage, fault_at}
+use Rattle.statement.specs.Statements.{Fit, records_text, StatementIn}
+use Rattle.statement.specs.Turns.{record_comes, stage_after}
 use Rattle.statement.proofs.Reading.{line_next}
 use Rattle.statement.proofs.Turns.{turn-taken}
 

@@ -1,15 +1,14 @@
 -- A statement that is written line by line.
-use Rattle.std.proofs.Common.{◌≡◌, ℕ, ◌+◌, ◌-◌, ◌*◌, ◌^◌, ◌<◌, ◌≤◌, true, false, ◌&&◌, eqb, leb, List, [], ◌∷◌, ◌++◌, length, get_or, take, drop, ℤ, nat_abs, Some, None, Err, Option, sym, refl, ap, ◌∙◌, inl, inr, arith}
+use Rattle.std.proofs.Common.{◌≡◌, ℕ, ◌+◌, ◌-◌, ◌*◌, ◌^◌, ◌<◌, ◌≤◌, true, false, ◌&&◌, eqb, leb, List, [], ◌∷◌, ◌++◌, length, get_or, take, drop, ℤ, Some, None, Err, Option, sym, refl, ap, ◌∙◌, inl, inr, arith}
 use borrow.Rule.Slice.PartMut.{put_mid}
 use Rattle.std.specs.List.{AllByRecursion}
 use Rattle.std.proofs.ByRecursion.{All-get_or, All-take}
-use Rattle.std.proofs.lemmas.List.{append_assoc, append-nil, drop_all, drop-drop, length-append, length-drop, length-take-le, take_all, take_more}
+use Rattle.std.proofs.lemmas.List.{append_assoc, append-nil, drop_all, length-append, length-drop, length-take-le, take_all, take_more}
 use Rattle.std.proofs.lemmas.Bool.{and_from, and_parts, cases_Bool, eq-eqb, eqb-true, le-leb, leb-true}
 use Rattle.count_text.specs.Columns.{Writes, bytes_after}
 use Rattle.quantity.specs.declared.refusal.Refusal.{Refusal}
 use Rattle.figure_text.specs.Rows.{writable}
 use Rattle.figure_text.proofs.Rows.{all_writable, writable_all}
-use Rattle.line_text.specs.NumberedRows.{numbered_text, numbered_refusal}
 use Rattle.line_text.proofs.Puts.{put_next, numbered_fits, numbered_length, part_length}
 use Rattle.statement_lines.specs.declared.day_length.DayLength.{DayLength}
 use Rattle.statement_lines.specs.declared.day_length.DayLength.TheVariants.{Short, Ordinary, Long}

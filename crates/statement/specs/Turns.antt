@@ -1,5 +1,5 @@
 -- What comes next in a statement: one opening, records numbered from 1, a tail with their count.
-use Rattle.std.specs.Prelude.{◌≡◌, ℕ, ◌+◌, Bool, true, false, cond, ◌&&◌, List, [], ◌∷◌, Some, None, Option, ◌==◌, nat_lt}
+use Rattle.std.specs.Prelude.{ℕ, ◌+◌, Bool, false, cond, ◌&&◌, List, Some, None, Option, ◌==◌, nat_lt}
 use Rattle.count_text.specs.Forms.{number_in}
 use Rattle.line_text.specs.Faults.{Fault, unless_at, first_of}
 use Rattle.line_text.specs.Letters.{is_letter}

@@ -1,14 +1,14 @@
 -- An opening line and its fields.
-use Rattle.std.proofs.Common.{◌≡◌, ℕ, ◌+◌, ◌-◌, ◌^◌, ◌<◌, ◌≤◌, true, false, ◌&&◌, ◌||◌, eqb, leb, ◌⊎◌, List, [], ◌∷◌, ◌++◌, length, get_or, take, drop, set, is_some, IfSome, Some, None, Option, sym, refl, ap, ◌∙◌, inl, inr, arith, MatchOption}
+use Rattle.std.proofs.Common.{◌≡◌, ℕ, ◌^◌, ◌<◌, ◌≤◌, true, false, ◌||◌, eqb, leb, ◌⊎◌, List, [], ◌∷◌, ◌++◌, length, get_or, take, drop, set, is_some, IfSome, Some, None, Option, sym, refl, ap, ◌∙◌, inl, inr, arith, MatchOption}
 use mathlib.Core.HLevel.{is_prop→PathP}
 use native.Mathlib.Bridge.{le_prop}
 use borrow.Rule.Slice.PartMut.{put_mid}
-use Rattle.std.proofs.lemmas.List.{append_assoc, take_at, drop_at, drop-drop, take-append-drop, drop_all, drop_more, get_or_at, get_or-drop, length-append, length-drop, length-set}
-use Rattle.std.proofs.lemmas.Bool.{and_from, and_left, and_right, cases_eq, eq-eqb, le-leb, lt-leb, ne_eqb, or_from, or_left, or_right}
+use Rattle.std.proofs.lemmas.List.{append_assoc, take_at, drop_at, drop-drop, take-append-drop, drop_all, drop_more, get_or-drop, length-append, length-drop, length-set}
+use Rattle.std.proofs.lemmas.Bool.{and_from, and_left, and_right, le-leb, lt-leb, ne_eqb, or_from}
 use Rattle.count_text.specs.Columns.{count_text_of, CountIn, count_refusal, bytes_after}
-use Rattle.count_text.specs.Forms.{number_in, is_count}
+use Rattle.count_text.specs.Forms.{is_count}
 use Rattle.count_text.proofs.Columns.{length_count}
-use Rattle.count_text.proofs.Forms.{count_number, is_count_lem, is_not_count}
+use Rattle.count_text.proofs.Forms.{count_number, is_count_lem}
 use Rattle.line_text.specs.NumberedRows.{is_whole}
 use Rattle.line_text.proofs.NumberedRows.{is_whole_lem, whole_parts}
 use Rattle.line_text.proofs.Puts.{put_next, set_next, count_put, part_length}

@@ -61,8 +61,8 @@ same_record a b e =
     }
 
 -- the letters of the three kinds
-first_of : (letter c w n : ℕ) (xs : List ℤ) (line : List ℕ) → NumberedIn letter w n xs line → is_letter c line ≡ eqb letter c
-first_of letter c w n xs line h = ap (λ (l : List ℕ). is_letter c l) h.2
+first_of_lem : (letter c w n : ℕ) (xs : List ℤ) (line : List ℕ) → NumberedIn letter w n xs line → is_letter c line ≡ eqb letter c
+first_of_lem letter c w n xs line h = ap (λ (l : List ℕ). is_letter c l) h.2
 
 -- the letters of a line, and the numbers behind them
 pub opening_shows : (o : OpeningOf) (line : List ℕ) → line ≡ opening_text o → (is_letter 68 line ≡ true) × (number_in (take 3 (drop 7 line)) ≡ quarter_hours_of o.length)
@@ -70,11 +70,11 @@ opening_shows o line h = (ap (λ (l : List ℕ). is_letter 68 l) h, count_number
 
 pub record_shows : (n : ℕ) (r : SettlementRecord) (line : List ℕ) → RecordIn n r line → (is_letter 68 line ≡ false) × (is_letter 73 line ≡ true) × (number_in (take 3 (drop 1 line)) ≡ n)
 record_shows n r line h =
-    (first_of 73 68 3 n (figures_of r) line h, first_of 73 73 3 n (figures_of r) line h, count_number 3 n _ (omega arith) (count_of 73 3 n (figures_of r) line (omega arith) (omega arith) h))
+    (first_of_lem 73 68 3 n (figures_of r) line h, first_of_lem 73 73 3 n (figures_of r) line h, count_number 3 n _ (omega arith) (count_of 73 3 n (figures_of r) line (omega arith) (omega arith) h))
 
 pub tail_shows : (n : ℕ) (xs : List ℤ) (line : List ℕ) → TailIn n xs line → (is_letter 68 line ≡ false) × (is_letter 73 line ≡ false) × (is_letter 84 line ≡ true) × (number_in (take 3 (drop 1 line)) ≡ n)
 tail_shows n xs line h =
-    (first_of 84 68 3 n xs line h.1, first_of 84 73 3 n xs line h.1, first_of 84 84 3 n xs line h.1, count_number 3 n _ (omega arith) (count_of 84 3 n xs line (omega arith) (omega arith) h.1))
+    (first_of_lem 84 68 3 n xs line h.1, first_of_lem 84 73 3 n xs line h.1, first_of_lem 84 84 3 n xs line h.1, count_number 3 n _ (omega arith) (count_of 84 3 n xs line (omega arith) (omega arith) h.1))
 
 -- a line that writes something has no fault
 pub line_clear : (read : StatementLine) (line : List ℕ) → LineIn read line → line_fault line ≡ None
@@ -82,29 +82,29 @@ line_clear (Opening o) line h =
     let a : is_letter 68 line ≡ true = ap (λ (l : List ℕ). is_letter 68 l) h in
     rw a (opening_clear o line (ap (λ (l : List ℕ). drop 1 l) h))
 line_clear (Record r) line h =
-    let a : is_letter 68 line ≡ false = first_of 73 68 3 _ (figures_of r.«record») line h in
-    let b : is_letter 73 line ≡ true = first_of 73 73 3 _ (figures_of r.«record») line h in
+    let a : is_letter 68 line ≡ false = first_of_lem 73 68 3 _ (figures_of r.«record») line h in
+    let b : is_letter 73 line ≡ true = first_of_lem 73 73 3 _ (figures_of r.«record») line h in
     rw (a, b) (no_fault 73 3 _ (figures_of r.«record») line (omega arith) (omega arith) h)
 line_clear (Tail t) line h =
-    let a : is_letter 68 line ≡ false = first_of 84 68 3 _ t.requests line h.1 in
-    let b : is_letter 73 line ≡ false = first_of 84 73 3 _ t.requests line h.1 in
-    let c : is_letter 84 line ≡ true = first_of 84 84 3 _ t.requests line h.1 in
+    let a : is_letter 68 line ≡ false = first_of_lem 84 68 3 _ t.requests line h.1 in
+    let b : is_letter 73 line ≡ false = first_of_lem 84 73 3 _ t.requests line h.1 in
+    let c : is_letter 84 line ≡ true = first_of_lem 84 84 3 _ t.requests line h.1 in
     let f = no_fault 84 3 _ t.requests line (omega arith) (omega arith) h.1 in
     rw (a, b, c) (rw h.0 at f)
 
 -- a line writes one thing at most
 pub same_line : (a b : StatementLine) (line : List ℕ) → LineIn a line → LineIn b line → a ≡ b
 same_line (Opening o) (Opening p) line h g = ap Opening (same_opening o p line (ap (λ (l : List ℕ). drop 1 l) h) (ap (λ (l : List ℕ). drop 1 l) g))
-same_line (Opening o) (Record r) line h g = absurd (true≢false (sym (ap (λ (l : List ℕ). is_letter 68 l) h) ∙ first_of 73 68 3 _ (figures_of r.«record») line g))
-same_line (Opening o) (Tail t) line h g = absurd (true≢false (sym (ap (λ (l : List ℕ). is_letter 68 l) h) ∙ first_of 84 68 3 _ t.requests line g.1))
-same_line (Record r) (Opening o) line h g = absurd (true≢false (sym (ap (λ (l : List ℕ). is_letter 68 l) g) ∙ first_of 73 68 3 _ (figures_of r.«record») line h))
+same_line (Opening o) (Record r) line h g = absurd (true≢false (sym (ap (λ (l : List ℕ). is_letter 68 l) h) ∙ first_of_lem 73 68 3 _ (figures_of r.«record») line g))
+same_line (Opening o) (Tail t) line h g = absurd (true≢false (sym (ap (λ (l : List ℕ). is_letter 68 l) h) ∙ first_of_lem 84 68 3 _ t.requests line g.1))
+same_line (Record r) (Opening o) line h g = absurd (true≢false (sym (ap (λ (l : List ℕ). is_letter 68 l) g) ∙ first_of_lem 73 68 3 _ (figures_of r.«record») line h))
 same_line (Record r) (Record s) line h g =
     let e = same_row 73 73 3 r.quarter_hour s.quarter_hour (figures_of r.«record») (figures_of s.«record») line (omega arith) (omega arith) refl h g in
     let f = same_record r.«record» s.«record» e.1 in
     λ i. Record (record { quarter_hour = e.0 i; «record» = f i })
-same_line (Record r) (Tail t) line h g = absurd (true≢false (sym (first_of 73 73 3 _ (figures_of r.«record») line h) ∙ first_of 84 73 3 _ t.requests line g.1))
-same_line (Tail t) (Opening o) line h g = absurd (true≢false (sym (ap (λ (l : List ℕ). is_letter 68 l) g) ∙ first_of 84 68 3 _ t.requests line h.1))
-same_line (Tail t) (Record r) line h g = absurd (true≢false (sym (first_of 73 73 3 _ (figures_of r.«record») line g) ∙ first_of 84 73 3 _ t.requests line h.1))
+same_line (Record r) (Tail t) line h g = absurd (true≢false (sym (first_of_lem 73 73 3 _ (figures_of r.«record») line h) ∙ first_of_lem 84 73 3 _ t.requests line g.1))
+same_line (Tail t) (Opening o) line h g = absurd (true≢false (sym (ap (λ (l : List ℕ). is_letter 68 l) g) ∙ first_of_lem 84 68 3 _ t.requests line h.1))
+same_line (Tail t) (Record r) line h g = absurd (true≢false (sym (first_of_lem 73 73 3 _ (figures_of r.«record») line g) ∙ first_of_lem 84 73 3 _ t.requests line h.1))
 same_line (Tail t) (Tail u) line h g =
     let e = same_row 84 84 3 t.closed u.closed t.requests u.requests line (omega arith) (omega arith) (h.0 ∙ sym g.0) h.1 g.1 in
     λ i. Tail (record { closed = e.0 i; requests = e.1 i })

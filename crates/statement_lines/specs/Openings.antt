@@ -1,5 +1,5 @@
 -- The opening line of a statement.
-use Rattle.std.specs.Prelude.{◌≡◌, ℕ, Bool, true, ◌&&◌, ◌||◌, List, [], ◌∷◌, ◌++◌, Option, ◌==◌, ◌≢◌, nat_le}
+use Rattle.std.specs.Prelude.{ℕ, Bool, true, ◌&&◌, ◌||◌, List, [], ◌∷◌, ◌++◌, Option, ◌==◌, ◌≢◌, nat_le}
 use Rattle.count_text.specs.Columns.{count_text_of, write_refusal}
 use Rattle.count_text.specs.Forms.{number_in, is_count}
 use Rattle.line_text.specs.Faults.{Fault, unless_at, first_of}

@@ -1,5 +1,5 @@
 -- The lines of a text, and what it is to hand out the next one.
-use Rattle.std.specs.Prelude.{◌≡◌, ℕ, ◌+◌, Bool, true, false, cond, List, [], ◌∷◌, ◌++◌, length, drop, ◌==◌}
+use Rattle.std.specs.Prelude.{◌≡◌, ℕ, ◌+◌, cond, List, [], ◌∷◌, length, drop, ◌==◌}
 use Rattle.text_parts.specs.declared.line.Line.{Line}
 use Rattle.text_parts.specs.declared.lines.Lines.{Lines}
 

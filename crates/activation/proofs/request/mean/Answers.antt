@@ -1,4 +1,4 @@
-use Rattle.std.proofs.Common.{◌≡◌, ◌^◌, ℤ, ap, ◌∙◌, arith}
+use Rattle.std.proofs.Common.{◌^◌, ℤ, ap, ◌∙◌, arith}
 use Rattle.quantity.specs.declared.power.Power.{Power}
 use Rattle.quantity.specs.Rounding.{rounded}
 use Rattle.quantity.proofs.Quotients.{rounded-within}

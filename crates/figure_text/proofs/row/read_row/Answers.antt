@@ -1,4 +1,4 @@
-use Rattle.std.proofs.Common.{◌≡◌, ℕ, List, take, ℤ, Ok, Result, sym, refl, ap, ◌∙◌, arith, w64, SFits, rules}
+use Rattle.std.proofs.Common.{◌≡◌, ℕ, List, take, ℤ, Ok, Result, refl, ap, ◌∙◌, arith, w64, SFits, rules}
 use Rattle.std.proofs.lemmas.Int.{to_z-of_z}
 use Rattle.quantity.specs.declared.refusal.Refusal.{Refusal}
 use Rattle.figure_text.specs.Rows.{OneFigure}

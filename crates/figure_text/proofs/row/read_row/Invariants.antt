@@ -1,4 +1,4 @@
-use Rattle.std.proofs.Common.{◌≡◌, ◌*◌, length, drop}
+use Rattle.std.proofs.Common.{◌≡◌, ◌*◌, drop}
 use Rattle.figure_text.specs.Rows.{Filled}
 use Rattle.figure_text.proofs.row.read_row.Given as goal
 

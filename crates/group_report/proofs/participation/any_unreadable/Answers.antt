@@ -1,4 +1,4 @@
-use Rattle.std.proofs.Common.{◌≡◌, not, sym, ap, ◌∙◌, take_all}
+use Rattle.std.proofs.Common.{not, sym, ap, ◌∙◌, take_all}
 use Rattle.group_report.proofs.Samples.{readable_more, readable_not}
 use Rattle.group_report.proofs.participation.any_unreadable.Goals as goal
 

@@ -1,4 +1,4 @@
-use Rattle.std.proofs.Common.{◌≡◌, ◌+◌, ◌*◌, ◌^◌, true, false, ltb, leb, length, Some, None, sym, refl, ap, ◌∙◌, arith}
+use Rattle.std.proofs.Common.{length, refl, ◌∙◌}
 use Rattle.std.proofs.lemmas.Bool.{false≢true}
 use Rattle.figure_text.proofs.Rows.{row_answered}
 use Rattle.line_text.proofs.Puts.{numbered_wide, numbered_short, numbered_fits, numbered_bytes}

@@ -1,5 +1,5 @@
-use Rattle.std.proofs.Common.{refl, arith}
-use Rattle.statement.proofs.Writing.{never_refused, few_records, opening_part, records_room, records_part, tail_not_refused, statement_put}
+use Rattle.std.proofs.Common.{refl}
+use Rattle.statement.proofs.Writing.{never_refused, opening_part, records_part, tail_not_refused, statement_put}
 use Rattle.statement.proofs.write.put_statement.Goals as goal
 
 pub returns-in_err-write_tail_line : goal.returns-in_err-write_tail_line

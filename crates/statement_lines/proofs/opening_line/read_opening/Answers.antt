@@ -1,4 +1,4 @@
-use Rattle.std.proofs.Common.{◌≡◌, ℕ, List, drop, sym, ap, ◌∙◌}
+use Rattle.std.proofs.Common.{ℕ, List, drop, sym, ap, ◌∙◌}
 use Rattle.statement_lines.specs.declared.opening.Opening.{Opening}
 use Rattle.statement_lines.proofs.Openings.{opening_of_fields, opening_clear}
 use Rattle.statement_lines.proofs.opening_line.read_opening.Goals as goal
