@@ -2,7 +2,6 @@
 
 use super::*;
 use quantity::{Energy, POWER_LIMIT, Power, Refusal};
-use std::process::Abort;
 
 /// The most that a quarter hour can activate: 10,000 MW throughout.
 const ACTIVATION_LIMIT: i64 = POWER_LIMIT / 4;
@@ -52,28 +51,31 @@ fn figures_reach_their_limits_and_no_further(rt: HostRuntime) {
     }
 }
 
-fn both_ways(rt: &impl Abort, bids: &[i64], number: u8) {
-    assert_eq!(rt; refused(terms(0, bids, &[], 0, 0)), number);
-    assert_eq!(rt; refused(terms(0, &[], bids, 0, 0)), number);
+/// The refusal of upward and of downward bids.
+fn both_ways(bids: &[i64]) -> (u8, u8) {
+    (
+        refused(terms(0, bids, &[], 0, 0)),
+        refused(terms(0, &[], bids, 0, 0)),
+    )
 }
 
 #[test]
 fn bids_are_above_zero_and_come_to_the_limit_at_most(rt: HostRuntime) {
-    both_ways(&rt, &[1], 0);
-    both_ways(&rt, &[0], 7);
-    both_ways(&rt, &[5, -1, 5], 7);
-    both_ways(&rt, &[POWER_LIMIT], 0);
-    both_ways(&rt, &[POWER_LIMIT + 1], 7);
-    both_ways(&rt, &[POWER_LIMIT - 1, 1], 0);
-    both_ways(&rt, &[POWER_LIMIT - 1, 2], 7);
-    both_ways(&rt, &[1, i64::MAX, i64::MIN], 7);
+    assert_eq!(rt; both_ways(&[1]), (0, 0));
+    assert_eq!(rt; both_ways(&[0]), (7, 7));
+    assert_eq!(rt; both_ways(&[5, -1, 5]), (7, 7));
+    assert_eq!(rt; both_ways(&[POWER_LIMIT]), (0, 0));
+    assert_eq!(rt; both_ways(&[POWER_LIMIT + 1]), (7, 7));
+    assert_eq!(rt; both_ways(&[POWER_LIMIT - 1, 1]), (0, 0));
+    assert_eq!(rt; both_ways(&[POWER_LIMIT - 1, 2]), (7, 7));
+    assert_eq!(rt; both_ways(&[1, i64::MAX, i64::MIN]), (7, 7));
 }
 
 #[test]
 fn at_most_thirty_two_bids_are_accepted(rt: HostRuntime) {
-    both_ways(&rt, &[1; MOST_BIDS], 0);
-    both_ways(&rt, &[1; MOST_BIDS + 1], 7);
-    both_ways(&rt, &[POWER_LIMIT / 32; MOST_BIDS], 0);
+    assert_eq!(rt; both_ways(&[1; MOST_BIDS]), (0, 0));
+    assert_eq!(rt; both_ways(&[1; MOST_BIDS + 1]), (7, 7));
+    assert_eq!(rt; both_ways(&[POWER_LIMIT / 32; MOST_BIDS]), (0, 0));
 }
 
 /// The allowance and the sizes of the activated energies.
