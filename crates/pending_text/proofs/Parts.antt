@@ -74,7 +74,6 @@ block_left n p r low high e =
     let a = take-take (n - 512) 164 r (omega arith) in
     let s : 512 + (n - 512) ≡ n = omega arith in
     let b = drop-take 512 (n - 512) p in
-    let c = take-take (n - 512) 164 r (omega arith) in
     sym a ∙ ap (λ (l : List ℕ). take (n - 512) l) e ∙ sym b ∙ ap (λ (k : ℕ). drop 512 (take k p)) s
 
 -- a block is taken

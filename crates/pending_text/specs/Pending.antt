@@ -1,5 +1,5 @@
 -- Text that is pending, and what a line that is appended or a block that is taken makes of it.
-use Rattle.std.specs.Prelude.{◌≡◌, ℕ, ◌-◌, cond, List, ◌++◌, take, drop, Some, None, Option, nat_le}
+use Rattle.std.specs.Prelude.{◌≡◌, ℕ, ◌-◌, cond, List, ◌++◌, take, drop, replicate, Some, None, Option, nat_le}
 use Rattle.pending_text.specs.declared.pending.PendingText.{PendingText}
 
 -- the pending text
@@ -28,7 +28,7 @@ BlockTaken None before after old new = (text_of after ≡ drop 512 (text_of befo
 abbrev pub all_refusal : PendingText → ℕ → Option ℕ
 all_refusal p room = cond (nat_le p.length room) None (Some 16)
 
--- all pending bytes stand in the buffer and nothing is pending, or everything is as it was
+-- all pending bytes stand in the buffer and the text is as when new, or everything is as it was
 abbrev pub AllTaken : Option ℕ → PendingText → PendingText → List ℕ → List ℕ → Type 0
 AllTaken (Some number) before after old new = (after ≡ before) × (new ≡ old)
-AllTaken None before after old new = (after.length ≡ 0) × (new ≡ text_of before ++ drop before.length old)
+AllTaken None before after old new = (after.bytes ≡ replicate 676 0) × (after.length ≡ 0) × (new ≡ text_of before ++ drop before.length old)
