@@ -1,7 +1,7 @@
 //! The calls of an account.
 
 ghost use Rattle.std.specs.Prelude.{◌≡◌, ◌+◌, ◌^◌, ◌<◌, List, [], pos, ◌+ℤ◌, None, unsigned_abs};
-ghost use Rattle.quantity.specs.Refusals.{Answers, number_in};
+ghost use Rattle.quantity.specs.Refusals.{Answers};
 ghost use Rattle.bands.specs.Ends.{distance_of};
 ghost use Rattle.account.specs.Changes.{Judged};
 ghost use Rattle.account.specs.Accounts.{judged, add_refusal_of, Holds, HoldsAfter};
@@ -13,17 +13,17 @@ use quantity::{Power, Refusal, is_within};
 /// The figures that an account takes: the minutes of a quarter hour.
 const FIGURES: u8 = 15;
 
-/// Why an account that has taken so many figures refuses one more.
-fn add_refusal(figure: Power, count: u8) -> Option<Refusal>
-    ensures { number_in result ≡ add_refusal_of figure.units count }
+/// Refuses a figure beyond its limit (11), then any where so many as an account takes were taken (12).
+fn admit(figure: Power, count: u8) -> Result<(), Refusal>
+    ensures { Answers (add_refusal_of figure.units count) (λ _. Unit {0}) result }
 {
     if !is_within(figure.units(), -FIGURE_LIMIT, FIGURE_LIMIT) {
-        return Some(Refusal::OutOfRange);
+        return Err(Refusal::OutOfRange);
     }
     if count >= FIGURES {
-        return Some(Refusal::PlaceTaken);
+        return Err(Refusal::PlaceTaken);
     }
-    None
+    Ok(())
 }
 
 /// A total and one distance more.
@@ -63,9 +63,7 @@ impl<R: BandRule + Drop> Account<R> {
         ensures rule { self.new.rule ≡ self.old.rule }
         ensures holds { (js : List Judged) → Holds js self.old.total.units self.old.count → HoldsAfter (add_refusal_of figure.units self.old.count) (judged (R.lowest self.old.rule) (R.highest self.old.rule) figure.units) js self.new.total.units self.new.count }
     {
-        if let Some(why) = add_refusal(figure, self.count) {
-            return Err(why);
-        }
+        admit(figure, self.count)?;
         self.take(figure);
         Ok(())
     }
@@ -77,9 +75,7 @@ impl<R: BandRule + Drop> Account<R> {
         ensures count { self.new.count ≡ self.old.count + 1 }
         ensures total { self.new.total.units ≡ self.old.total.units +ℤ pos (distance_of (R.lowest self.old.rule) (R.highest self.old.rule) figure.units) }
     {
-        let Ok(far) = distance(&self.rule, figure) else {
-            unreachable()
-        };
+        let far = distance(&self.rule, figure).unwrap();
         self.total = sum(self.total, far);
         self.count += 1;
     }

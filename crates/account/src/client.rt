@@ -15,6 +15,7 @@ pub enum Call<R> {
 }
 
 /// What a call answered.
+// Not a `Result<Option<Power>, Refusal>`: a client would have to know which calls answer no power.
 #[derive(Clone, Copy)]
 pub enum Answer {
     Done,

@@ -24,13 +24,6 @@ impl<R: BandRule> Account<R> {
         ensures value { result ≡ self.now.total }
         ensures least { (js : List Judged) → Holds js self.now.total.units self.now.count → LeastChange js result.units }
     {
-        self.held()
-    }
-
-    /// The total as it is held.
-    fn held(&self) -> Power
-        ensures { result ≡ self.now.total }
-    {
         self.total
     }
 }

@@ -3,13 +3,14 @@ use Rattle.std.specs.Prelude.{ℕ, zero, suc, Bool, ◌&&◌, List, length, ℤ,
 use Rattle.quantity.specs.declared.power.Power.{Power}
 use Rattle.quantity.specs.Refusals.{unless}
 use Rattle.quantity.specs.Rounding.{rounded}
-use Rattle.quantity.specs.Series.{power_limit, within, every, total}
+use Rattle.std.specs.List.{list_all}
+use Rattle.quantity.specs.Series.{power_limit, within, total}
 use Rattle.activation.specs.declared.direction.Direction.{Direction}
 use Rattle.activation.specs.declared.direction.Direction.TheVariants.{Upward, Downward, Neither}
 
 -- the samples of a minute in one direction: thirty, each from low to high
 abbrev pub sampled : ℤ → ℤ → List ℤ → Bool
-sampled low high xs = length xs == 30 && every (within low high) xs
+sampled low high xs = length xs == 30 && list_all (within low high) xs
 
 -- upward samples run from 0 to the limit and downward ones from minus the limit to 0; anything else is refused with 11
 abbrev pub request_refusal : List ℤ → List ℤ → Option ℕ

@@ -7,11 +7,13 @@ ghost use Rattle.activation.specs.Requests.{sampled, request_refusal, request_of
 
 use crate::direction::Direction;
 use quantity::{Divisor, POWER_LIMIT, Power, Refusal, all_within, is_within, total};
+use std::cmp::Ordering;
 
 /// The samples of a minute in one direction: one each two seconds.
 pub const SAMPLES: usize = 30;
 
 /// The power that the pool was asked for in a minute, upward above zero and downward below.
+// Not a `Limited` power: only the crate of that type could give it the methods that a request has.
 #[derive(Clone, Copy)]
 pub struct ActivationRequest {
     power: Power,
@@ -49,13 +51,10 @@ impl ActivationRequest {
     pub fn direction(self) -> Direction
         ensures { result ≡ direction_of self.power.units }
     {
-        let units = self.power.units();
-        if units > 0 {
-            Direction::Upward
-        } else if units < 0 {
-            Direction::Downward
-        } else {
-            Direction::Neither
+        match self.power.units().cmp(&0) {
+            Ordering::Greater => Direction::Upward,
+            Ordering::Equal => Direction::Neither,
+            Ordering::Less => Direction::Downward,
         }
     }
 }

@@ -1,10 +1,11 @@
 -- The foremost request is the greatest or the least.
-use Rattle.std.proofs.Common.{◌≡◌, ℕ, suc, ◌<◌, true, List, [], ◌∷◌, length, get_or, ℤ, pos, ◌≤ℤ◌, sym, refl, ◌∙◌, inl, inr, arith}
+use Rattle.std.proofs.Common.{◌≡◌, ℕ, suc, ◌<◌, true, List, [], ◌∷◌, length, get_or, ℤ, pos, ◌≤ℤ◌, sym, refl, ap, ◌∙◌, inl, inr, arith}
 use lib.Signed.{le_z}
 use Rattle.std.proofs.ByRecursion.{All-get_or, folded_max_z_bounds, folded_max_z_reached, folded_min_z_bounds, folded_min_z_reached}
 use Rattle.std.proofs.lemmas.List.{get_or-map, length-map}
 use Rattle.std.proofs.lemmas.Int.{ints}
 use Rattle.activation.specs.declared.request.ActivationRequest.{ActivationRequest}
+use Rattle.bands.specs.Orders.{FirstForemost}
 use Rattle.bands.specs.Tolerances.{least, greatest, request_units}
 
 same_number : (x y : ℤ) → x ≤ℤ y → y ≤ℤ x → x ≡ y
@@ -49,9 +50,9 @@ module _ (window : List ActivationRequest) (b : ℕ) (d : ActivationRequest) (in
       ∙ least_alone (request_units window) b (omega (arith, length_units))
       (λ k lt. let le : k < length window = omega (arith, length_units) in let e = each k le in rw (units_at k le, units_at b in_run) (grind (arith, ints)))
 
-pub least-below-greatest : (xs : List ℤ) → least xs ≤ℤ greatest xs
-least-below-greatest [] = omega (arith, ints)
-least-below-greatest (x ∷ xs) =
-    let low : least (x ∷ xs) ≤ℤ x = (folded_min_z_bounds x xs _ refl).0 in
-    let high : x ≤ℤ greatest (x ∷ xs) = (folded_max_z_bounds x xs _ refl).0 in
-    omega (arith, ints)
+-- ---- and of the request that a search found
+pub highest_found : (window : List ActivationRequest) (q : ActivationRequest) → (place : ℕ) × FirstForemost (λ x y. le_z y.power.units x.power.units) window place × (q ≡ get_or window place q) → q.power.units ≡ greatest (request_units window)
+highest_found window q h = ap (λ (q : ActivationRequest). q.power.units) h.2 ∙ highest_is window h.0 q h.1.in_run (λ k lt. h.1.foremost k q lt)
+
+pub lowest_found : (window : List ActivationRequest) (q : ActivationRequest) → (place : ℕ) × FirstForemost (λ x y. le_z x.power.units y.power.units) window place × (q ≡ get_or window place q) → q.power.units ≡ least (request_units window)
+lowest_found window q h = ap (λ (q : ActivationRequest). q.power.units) h.2 ∙ lowest_is window h.0 q h.1.in_run (λ k lt. h.1.foremost k q lt)

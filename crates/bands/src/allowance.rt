@@ -1,14 +1,13 @@
 //! Allowances.
 
 ghost use Rattle.std.specs.Prelude.{◌≡◌, ◌^◌, pos, ◌≤ℤ◌};
-ghost use Rattle.quantity.specs.Quantities.{part_of};
-ghost use Rattle.std.specs.Int.{int_max};
 ghost use Rattle.bands.specs.Tolerances.{allowance_of};
 
 use crate::bid_sum::BidSum;
 use quantity::{Divisor, Power};
 
 /// How far realised power may stray beyond the requests of the window.
+// Not a `Limited` power: two sums of bids give it, and nothing is refused.
 #[derive(Clone, Copy)]
 pub struct Allowance {
     power: Power,
@@ -19,10 +18,12 @@ pub struct Allowance {
 impl Allowance {
     /// A tenth of the larger of the two sums of bids.
     pub fn of_bids(upward: BidSum, downward: BidSum) -> Allowance
-        ensures { result.power ≡ allowance_of upward.power downward.power }
+        ensures { result.power ≡ allowance_of upward.quantity downward.quantity }
     {
-        let power = larger(upward, downward).power().part(Divisor::TEN);
-        Allowance { power }
+        let larger = upward.quantity().units().max(downward.quantity().units());
+        Allowance {
+            power: Power::from_units(larger).part(Divisor::TEN),
+        }
     }
 
     pub fn power(self) -> Power
@@ -31,16 +32,5 @@ impl Allowance {
         ensures limit { result.units ≤ℤ pos (10 ^ 13) }
     {
         self.power
-    }
-}
-
-/// The larger of two sums.
-fn larger(sum: BidSum, other: BidSum) -> BidSum
-    ensures { result.power.units ≡ int_max sum.power.units other.power.units }
-{
-    if sum.power().units() > other.power().units() {
-        sum
-    } else {
-        other
     }
 }

@@ -12,9 +12,9 @@
 #![tactic(auto)]
 
 mod allowance;
+mod band_end;
 mod bid_sum;
 mod floor;
-mod limit;
 mod order;
 mod outside;
 mod request_orders;
@@ -23,9 +23,10 @@ mod search;
 mod tolerance;
 
 pub use allowance::Allowance;
-pub use bid_sum::BidSum;
+pub use band_end::{BandEnd, EndLimits};
+pub use bid_sum::{BidLimits, BidSum};
 pub use floor::Floor;
-pub use order::Order;
+pub use order::{Order, Reversed};
 pub use outside::{FIGURE_LIMIT, distance};
 pub use request_orders::{HighestFirst, LowestFirst};
 pub use rule::BandRule;

@@ -2,6 +2,8 @@
 
 ghost use Rattle.std.specs.Prelude.{◌≡◌, Bool, true, false};
 
+use std::marker::PhantomData;
+
 /// An order of things of one kind. Of two things one stands no later than the other, and this carries on through a third.
 pub trait Order {
     type Thing;
@@ -15,4 +17,23 @@ pub trait Order {
     ghost either: { (x y : Self.Thing) → ahead x y ≡ false → ahead y x ≡ true };
 
     ghost chain: { (x y z : Self.Thing) → ahead x y ≡ true → ahead y z ≡ true → ahead x z ≡ true };
+}
+
+/// An order turned round: what stands first in the one stands last in the other.
+pub struct Reversed<O> {
+    order: PhantomData<O>,
+}
+
+impl<O: Order> Order for Reversed<O> {
+    type Thing = O::Thing;
+
+    ghost ahead = { λ x y. O.ahead y x };
+
+    ghost either = { λ x y. O.either y x };
+
+    ghost chain = { λ x y z first second. O.chain z y x second first };
+
+    fn is_no_later(thing: &O::Thing, other: &O::Thing) -> bool {
+        O::is_no_later(other, thing)
+    }
 }

@@ -1,6 +1,6 @@
 //! How far a figure lies outside a band.
 
-ghost use Rattle.std.specs.Prelude.{◌≡◌, ◌+◌, ◌*◌, ◌^◌, ◌≤◌, pos, ◌-ℤ◌, IfOk, int_lt, unsigned_abs};
+ghost use Rattle.std.specs.Prelude.{◌≡◌, ◌+◌, ◌*◌, ◌^◌, ◌≤◌, pos, ◌-ℤ◌, IfOk, unsigned_abs};
 ghost use Rattle.quantity.specs.Refusals.{Answers};
 ghost use Rattle.bands.specs.Ends.{distance_of, distance_refusal};
 
@@ -28,26 +28,22 @@ pub(crate) fn gap<R: BandRule>(rule: &R, figure: Power) -> Power
     ensures bound { unsigned_abs result.units ≤ 13 * 10 ^ 15 }
 {
     if let Some(low) = rule.low() {
-        if is_less(figure, low) {
+        let low = low.quantity();
+        if figure < low {
             return difference(low, figure);
         }
     }
     if let Some(high) = rule.high() {
-        if is_less(high, figure) {
+        let high = high.quantity();
+        if high < figure {
             return difference(figure, high);
         }
     }
     Power::from_units(0)
 }
 
-/// Whether a power is less than another.
-fn is_less(power: Power, other: Power) -> bool
-    ensures { result ≡ int_lt power.units other.units }
-{
-    power.units() < other.units()
-}
-
 /// A power less another.
+// It stands in group_report too, for other bounds: one for both would be public, and no public call requires anything.
 fn difference(power: Power, other: Power) -> Power
     requires { unsigned_abs power.units + unsigned_abs other.units ≤ 13 * 10 ^ 15 }
     ensures value { result.units ≡ power.units -ℤ other.units }

@@ -1,9 +1,9 @@
 //! Band rules: what a figure is judged by.
 
-ghost use Rattle.std.specs.Prelude.{◌≡◌, ℤ, Option};
-ghost use Rattle.bands.specs.Ends.{units_of, Ordered, EndLimited};
+ghost use Rattle.std.specs.Prelude.{◌≡◌, ℤ, Option, option_map};
+ghost use Rattle.bands.specs.Ends.{Ordered};
 
-use quantity::Power;
+use crate::band_end::BandEnd;
 
 /// A band with a low end or none and a high end or none. Asking for an end alters nothing.
 pub trait BandRule {
@@ -13,15 +13,11 @@ pub trait BandRule {
     /// The units of the high end.
     ghost highest: { Self → Option ℤ };
 
-    fn low(&self) -> Option<Power>
-        ensures { units_of result ≡ lowest self.now };
+    fn low(&self) -> Option<BandEnd>
+        ensures { option_map (λ end. end.quantity.units) result ≡ lowest self.now };
 
-    fn high(&self) -> Option<Power>
-        ensures { units_of result ≡ highest self.now };
+    fn high(&self) -> Option<BandEnd>
+        ensures { option_map (λ end. end.quantity.units) result ≡ highest self.now };
 
     ghost ordered: { (rule : Self) → Ordered (lowest rule) (highest rule) };
-
-    ghost low_limited: { (rule : Self) → EndLimited (lowest rule) };
-
-    ghost high_limited: { (rule : Self) → EndLimited (highest rule) };
 }

@@ -20,8 +20,8 @@ pub fn first_foremost<O: Order>(run: &[O::Thing]) -> Option<usize>
         return None;
     }
     let mut best = 0;
-    for i in 1..run.len() {
-        if is_before::<O>(&run[i], &run[best]) {
+    for (i, thing) in run.iter().enumerate() {
+        if is_before::<O>(thing, &run[best]) {
             best = i;
         }
     }

@@ -1,10 +1,13 @@
 //! The tolerance band of one minute.
 
-ghost use Rattle.std.specs.Prelude.{◌≡◌, ◌*◌, ◌^◌, ◌≤◌, length, ◌+ℤ◌, ◌-ℤ◌, ◌≤ℤ◌, Some, unsigned_abs};
-ghost use Rattle.bands.specs.Tolerances.{least, greatest, request_units, low_end, high_end};
-ghost use Rattle.std.proofs.Common.{rules, arith};
+ghost use Rattle.std.specs.Prelude.{◌≡◌, ℕ, length, ◌+ℤ◌, ◌-ℤ◌, ◌≤ℤ◌, Some, slice_index_or};
+ghost use Rattle.bands.specs.Orders.{FirstForemost};
+ghost use Rattle.bands.specs.Tolerances.{low_end, high_end};
+ghost use Rattle.std.proofs.Common.{rules};
 
 use crate::allowance::Allowance;
+use crate::band_end::BandEnd;
+use crate::order::Order;
 use crate::request_orders::{HighestFirst, LowestFirst};
 use crate::rule::BandRule;
 use crate::search::first_foremost;
@@ -17,89 +20,62 @@ pub const WINDOW: usize = 7;
 /// A band from the lowest request of a window less the allowance to the highest and the allowance.
 #[derive(Clone, Copy)]
 pub struct ToleranceBand {
-    low: Power,
-    high: Power,
-    ghost ordered: { low.units ≤ℤ high.units },
-    ghost low_limit: { unsigned_abs low.units ≤ 2 * 10 ^ 15 },
-    ghost high_limit: { unsigned_abs high.units ≤ 2 * 10 ^ 15 },
+    low: BandEnd,
+    high: BandEnd,
+    ghost ordered: { low.quantity.units ≤ℤ high.quantity.units },
 }
 
-/// The lowest request of a window.
-fn lowest_of(window: &[ActivationRequest; WINDOW]) -> ActivationRequest
-    ensures { result.power.units ≡ least (request_units window.now) }
+/// The foremost request of a window.
+fn foremost_of<O: Order<Thing = ActivationRequest>>(
+    window: &[ActivationRequest; WINDOW],
+) -> ActivationRequest
+    ensures { (place : ℕ) × FirstForemost O.ahead window.now place × (result ≡ slice_index_or window.now place result) }
 {
-    match first_foremost::<LowestFirst>(window) {
-        Some(place) => window[place],
-        None => unreachable(),
-    }
-}
-
-/// The highest request of a window.
-fn highest_of(window: &[ActivationRequest; WINDOW]) -> ActivationRequest
-    ensures { result.power.units ≡ greatest (request_units window.now) }
-{
-    match first_foremost::<HighestFirst>(window) {
-        Some(place) => window[place],
-        None => unreachable(),
-    }
+    window[first_foremost::<O>(window).unwrap()]
 }
 
 /// A request less the allowance.
-fn lower_end(request: ActivationRequest, allowance: Allowance) -> Power
-    ensures value { result.units ≡ request.power.units -ℤ allowance.power.units }
-    ensures bound { unsigned_abs result.units ≤ 2 * 10 ^ 15 }
+// Not one function with the upper end: they differ in what is done, which a closure would say no plainer.
+fn lower_end(request: ActivationRequest, allowance: Allowance) -> BandEnd
+    ensures { result.quantity.units ≡ request.power.units -ℤ allowance.power.units }
 {
-    Power::from_units(request.power().units() - allowance.power().units())
+    let units = request.power().units() - allowance.power().units();
+    BandEnd::new(Power::from_units(units)).unwrap()
 }
 
 /// A request and the allowance.
-fn upper_end(request: ActivationRequest, allowance: Allowance) -> Power
-    ensures value { result.units ≡ request.power.units +ℤ allowance.power.units }
-    ensures bound { unsigned_abs result.units ≤ 2 * 10 ^ 15 }
+fn upper_end(request: ActivationRequest, allowance: Allowance) -> BandEnd
+    ensures { result.quantity.units ≡ request.power.units +ℤ allowance.power.units }
 {
-    Power::from_units(request.power().units() + allowance.power().units())
+    let units = request.power().units() + allowance.power().units();
+    BandEnd::new(Power::from_units(units)).unwrap()
 }
 
 impl ToleranceBand {
     /// The band of a minute, from its window of requests, the minute's own among them.
     pub fn over(window: &[ActivationRequest; WINDOW], allowance: Allowance) -> ToleranceBand
         ensures seven { length window.now ≡ 7 }
-        ensures low { result.low.units ≡ low_end window.now allowance.power }
-        ensures high { result.high.units ≡ high_end window.now allowance.power }
+        ensures low { result.low.quantity.units ≡ low_end window.now allowance.power }
+        ensures high { result.high.quantity.units ≡ high_end window.now allowance.power }
     {
-        let low = lower_end(lowest_of(window), allowance);
-        let high = upper_end(highest_of(window), allowance);
-        between(low, high)
+        let low = lower_end(foremost_of::<LowestFirst>(window), allowance);
+        let high = upper_end(foremost_of::<HighestFirst>(window), allowance);
+        ToleranceBand { low, high }
     }
-}
-
-/// The band between two ends.
-fn between(low: Power, high: Power) -> ToleranceBand
-    requires ordered { low.units ≤ℤ high.units }
-    requires low_limit { unsigned_abs low.units ≤ 2 * 10 ^ 15 }
-    requires high_limit { unsigned_abs high.units ≤ 2 * 10 ^ 15 }
-    ensures low { result.low ≡ low }
-    ensures high { result.high ≡ high }
-{
-    ToleranceBand { low, high }
 }
 
 impl BandRule for ToleranceBand {
-    ghost lowest = { λ band. Some band.low.units };
+    ghost lowest = { λ band. Some band.low.quantity.units };
 
-    ghost highest = { λ band. Some band.high.units };
+    ghost highest = { λ band. Some band.high.quantity.units };
 
-    ghost ordered = { first_of (Prim.search rules, Prim.grind (arith, Self.row.coded.inj)) };
+    ghost ordered = { Prim.search rules };
 
-    ghost low_limited = { first_of (Prim.search rules, Prim.grind (arith, Self.row.coded.inj)) };
-
-    ghost high_limited = { first_of (Prim.search rules, Prim.grind (arith, Self.row.coded.inj)) };
-
-    fn low(&self) -> Option<Power> {
+    fn low(&self) -> Option<BandEnd> {
         Some(self.low)
     }
 
-    fn high(&self) -> Option<Power> {
+    fn high(&self) -> Option<BandEnd> {
         Some(self.high)
     }
 }

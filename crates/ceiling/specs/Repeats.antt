@@ -13,7 +13,7 @@ low_of ceiling = None
 
 -- and its high end
 abbrev pub high_of : Ceiling → Option ℤ
-high_of ceiling = Some ceiling.high.units
+high_of ceiling = Some ceiling.high.quantity.units
 
 -- each call so far added the figure, and they and those still to come are as many as planned
 abbrev pub Heard : List (Turn Ceiling) → Repeater → Type 0

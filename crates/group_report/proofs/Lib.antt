@@ -1,4 +1,2 @@
-pub mod Checks
-pub mod Same
 pub mod Samples
 pub mod Sums

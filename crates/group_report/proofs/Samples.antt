@@ -1,23 +1,11 @@
 -- The status samples of a minute, one at a time, and what they make of a participation.
-use Rattle.std.proofs.Common.{◌≡◌, ℕ, zero, suc, ◌+◌, ◌<◌, true, false, eqb, List, [], ◌∷◌, length, get_or, take, Ok, Err, fold, Result, refl, inl, inr, add-one, arith}
-use Rattle.std.proofs.lemmas.Bool.{and_parts, and_from, and_left, and_right, eqb-true, eq-eqb, both_ways, cases_Bool, or_left}
+use Rattle.std.proofs.Common.{◌≡◌, ℕ, zero, suc, ◌<◌, true, false, eqb, List, [], ◌∷◌, length, get_or, Ok, Err, fold, Result, refl, inl, inr, arith}
+use Rattle.std.proofs.lemmas.Bool.{and_parts, and_from, eqb-true, eq-eqb, both_ways, cases_Bool, or_left}
+use Rattle.std.specs.List.{list_all}
 use Rattle.quantity.specs.declared.refusal.Refusal.{Refusal}
 use Rattle.group_report.specs.declared.participation.Participation.{Participation}
 use Rattle.group_report.specs.declared.participation.Participation.TheVariants.{Whole, Broken}
-use Rattle.group_report.specs.Participations.{readable, all_readable, sampled, after_sample, participation_of, OnThroughout}
-
-readable-suc : (xs : List ℕ) (i : ℕ) → i < length xs → all_readable (take i xs) ≡ true → readable (get_or xs i 0) ≡ true → all_readable (take (suc i) xs) ≡ true
-readable-suc [] i lt all here = refl
-readable-suc (x ∷ xs) zero lt all here = and_from _ _ here refl
-readable-suc (x ∷ xs) (suc i) lt all here = let p = and_parts _ _ all in and_from _ _ p.0 (readable-suc xs i (omega arith) p.1 here)
-
-pub readable_more : (xs : List ℕ) (i : ℕ) → i < length xs → all_readable (take i xs) ≡ true → readable (get_or xs i 0) ≡ true → all_readable (take (i + 1) xs) ≡ true
-readable_more xs i lt all here = rw add-one (readable-suc xs i lt all here)
-
-pub readable_not : (xs : List ℕ) (i : ℕ) → i < length xs → readable (get_or xs i 0) ≡ false → all_readable xs ≡ false
-readable_not [] i lt other = absurd (let q : ⊥ = omega arith in q)
-readable_not (x ∷ xs) zero lt other = and_left _ _ other
-readable_not (x ∷ xs) (suc i) lt other = and_right _ _ (readable_not xs i (omega arith) other)
+use Rattle.group_report.specs.Participations.{readable, sampled, after_sample, participation_of, OnThroughout}
 
 -- ---- whole is what was on in every sample
 abbrev On : List ℕ → Type 0
@@ -51,7 +39,7 @@ begun : (xs : List ℕ) → 0 < length xs → participation_of xs ≡ fold after
 begun [] lt = absurd (let q : ⊥ = omega arith in q)
 begun (x ∷ xs) lt = refl
 
-on_readable : (xs : List ℕ) → On xs → all_readable xs ≡ true
+on_readable : (xs : List ℕ) → On xs → list_all readable xs ≡ true
 on_readable [] on = refl
 on_readable (x ∷ xs) on = and_from _ _ (or_left _ _ (or_left _ _ (eq-eqb x 49 (on 0 (omega arith))))) (on_readable xs (on_rest x xs on))
 
@@ -61,7 +49,7 @@ WholeMinute xs r = (r ≡ Ok Whole → OnThroughout xs) × (OnThroughout xs → 
 
 pub taken_whole : (xs : List ℕ) (p : Participation) → sampled xs ≡ true → p ≡ participation_of xs → WholeMinute xs (Ok p)
 taken_whole xs p s is =
-    let thirty : length xs ≡ 30 = eqb-true (length xs) 30 (and_parts (eqb (length xs) 30) (all_readable xs) s).0 in
+    let thirty : length xs ≡ 30 = eqb-true (length xs) 30 (and_parts (eqb (length xs) 30) (list_all readable xs) s).0 in
     let b = begun xs (omega arith) in (
       λ e. let w : fold after_sample Whole xs ≡ Whole = cc in record { thirty = thirty; on = whole_on xs w },
       λ h. let w = on_whole xs h.on in cc,

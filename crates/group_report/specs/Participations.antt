@@ -1,5 +1,6 @@
 -- The participation of a group in a service, from the status samples of a minute: '1' (49) is on, '0' (48) off, '-' (45) lost.
-use Rattle.std.specs.Prelude.{◌≡◌, ℕ, ◌<◌, Bool, true, false, cond, ◌&&◌, ◌||◌, List, [], ◌∷◌, length, fold, Option, ◌==◌, slice_index}
+use Rattle.std.specs.Prelude.{◌≡◌, ℕ, ◌<◌, Bool, true, false, cond, ◌&&◌, ◌||◌, List, length, fold, Option, ◌==◌, slice_index}
+use Rattle.std.specs.List.{list_all}
 use Rattle.quantity.specs.Refusals.{unless}
 use Rattle.group_report.specs.declared.participation.Participation.{Participation}
 use Rattle.group_report.specs.declared.participation.Participation.TheVariants.{Untouched, Whole, Broken}
@@ -8,14 +9,9 @@ use Rattle.group_report.specs.declared.participation.Participation.TheVariants.{
 abbrev pub readable : ℕ → Bool
 readable sample = sample == 49 || sample == 48 || sample == 45
 
--- each of them can
-abbrev pub all_readable : List ℕ → Bool
-all_readable [] = true
-all_readable (x ∷ xs) = readable x && all_readable xs
-
 -- the status samples of a minute: thirty, each readable
 abbrev pub sampled : List ℕ → Bool
-sampled xs = length xs == 30 && all_readable xs
+sampled xs = length xs == 30 && list_all readable xs
 
 -- anything else is refused with 10
 abbrev pub samples_refusal : List ℕ → Option ℕ

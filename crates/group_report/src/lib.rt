@@ -10,15 +10,17 @@
 
 #![tactic(auto)]
 
+mod figures;
 mod minute;
 mod participation;
 mod report;
 mod reserve;
 
+pub use figures::ENERGY_LIMIT;
 pub use minute::{MOST_GROUPS, offered_reserve, realised_power};
 pub use participation::{Participation, STATUS_SAMPLES};
-pub use report::{ENERGY_LIMIT, GroupReport};
-pub use reserve::PrequalifiedReserve;
+pub use report::GroupReport;
+pub use reserve::{PrequalifiedLimits, PrequalifiedReserve};
 
 #[cfg(test)]
 mod tests;

@@ -1,6 +1,6 @@
 //! What the groups of a pool come to in one minute.
 
-ghost use Rattle.std.specs.Prelude.{◌≡◌, ◌*◌, ◌^◌, ◌≤◌, pos, ◌-ℤ◌, ◌*ℤ◌, ◌≤ℤ◌, Some, unsigned_abs};
+ghost use Rattle.std.specs.Prelude.{◌≡◌, ◌*◌, ◌^◌, ◌≤◌, map, pos, ◌-ℤ◌, ◌*ℤ◌, ◌≤ℤ◌, Some, unsigned_abs};
 ghost use Rattle.std.specs.Int.{int_min};
 ghost use Rattle.group_report.specs.Minutes.{offered_of, fcr_power_of, net_power_of, realised_of, offered_reserve_of, realised_power_of};
 
@@ -17,11 +17,12 @@ pub fn offered_reserve(
     reports: &[Option<GroupReport>; MOST_GROUPS],
     reserves: &[PrequalifiedReserve; MOST_GROUPS],
 ) -> Power
-    ensures value { result.units ≡ offered_reserve_of reports.now reserves.now }
+    ensures value { result.units ≡ offered_reserve_of reports.now (map (λ reserve. reserve.quantity.units) reserves.now) }
     ensures some { pos 0 ≤ℤ result.units }
     ensures limit { result.units ≤ℤ pos (8 * 10 ^ 14) }
 {
     let mut units = 0;
+    // By the numbers of the groups, as the rule of these sums has it; reserves last a day, and reports a minute.
     for (group, report) in reports.iter().enumerate() {
         units += offered_by(*report, reserves[group]).units();
     }
@@ -42,12 +43,12 @@ pub fn realised_power(reports: &[Option<GroupReport>; MOST_GROUPS]) -> Power
 
 /// What one group offers, where it takes part in FCR.
 fn offered_by(report: Option<GroupReport>, reserve: PrequalifiedReserve) -> Power
-    ensures value { result.units ≡ offered_of report reserve }
+    ensures value { result.units ≡ offered_of report reserve.quantity.units }
     ensures some { pos 0 ≤ℤ result.units }
     ensures limit { result.units ≤ℤ pos (10 ^ 14) }
 {
     match report {
-        Some(report) if report.fcr().takes_part() => smaller(report.offered(), reserve.power()),
+        Some(report) if report.fcr().takes_part() => smaller(report.offered(), reserve.quantity()),
         _ => Power::from_units(0),
     }
 }
@@ -56,11 +57,7 @@ fn offered_by(report: Option<GroupReport>, reserve: PrequalifiedReserve) -> Powe
 fn smaller(power: Power, other: Power) -> Power
     ensures { result.units ≡ int_min power.units other.units }
 {
-    if power.units() > other.units() {
-        other
-    } else {
-        power
-    }
+    Power::from_units(power.units().min(other.units()))
 }
 
 /// What one group realises, where it takes part in aFRR.
@@ -111,8 +108,5 @@ fn minute_power(energy: Energy) -> Power
     requires { unsigned_abs energy.units ≤ 10 ^ 12 }
     ensures { result.units ≡ energy.units *ℤ pos 60 }
 {
-    match energy.spread_over(Minutes::ONE) {
-        Some(power) => power,
-        None => unreachable(),
-    }
+    energy.spread_over(Minutes::ONE).unwrap()
 }

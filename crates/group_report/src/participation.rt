@@ -1,8 +1,9 @@
 //! Participations.
 
-ghost use Rattle.std.specs.Prelude.{◌≡◌, not, Ok};
+ghost use Rattle.std.specs.Prelude.{◌≡◌, Ok};
+ghost use Rattle.std.specs.List.{list_all};
 ghost use Rattle.quantity.specs.Refusals.{Answers};
-ghost use Rattle.group_report.specs.Participations.{readable, all_readable, sampled, samples_refusal, after_sample, participation_of, is_whole, OnThroughout};
+ghost use Rattle.group_report.specs.Participations.{readable, sampled, samples_refusal, after_sample, participation_of, is_whole, OnThroughout};
 
 use quantity::Refusal;
 
@@ -37,10 +38,7 @@ impl Participation {
     pub fn takes_part(self) -> bool
         ensures { result ≡ is_whole self }
     {
-        match self {
-            Participation::Whole => true,
-            _ => false,
-        }
+        matches!(self, Participation::Whole)
     }
 
     /// Takes in one more sample: the first `1` makes the participation whole, and anything else breaks it for good.
@@ -70,27 +68,19 @@ fn after(samples: &[u8]) -> Participation
 fn is_sampled(samples: &[u8]) -> bool
     ensures { result ≡ sampled samples.now }
 {
-    samples.len() == STATUS_SAMPLES && !any_unreadable(samples)
+    samples.len() == STATUS_SAMPLES && are_readable(samples)
 }
 
-/// Whether some sample is none of the three characters.
-fn any_unreadable(samples: &[u8]) -> bool
-    ensures { result ≡ not (all_readable samples.now) }
+/// Whether each sample is one of the three characters.
+fn are_readable(samples: &[u8]) -> bool
+    ensures { result ≡ list_all readable samples.now }
 {
-    for sample in samples {
-        if !is_readable(*sample) {
-            return true;
-        }
-    }
-    false
+    samples.iter().all(|sample| is_readable(*sample))
 }
 
 /// Whether a sample says that the signal was on, off or lost.
 fn is_readable(sample: u8) -> bool
     ensures { result ≡ readable sample }
 {
-    match sample as char {
-        '1' | '0' | '-' => true,
-        _ => false,
-    }
+    matches!(sample as char, '1' | '0' | '-')
 }

@@ -6,8 +6,8 @@ use Rattle.quantity.specs.Series.{total}
 use Rattle.interval_terms.specs.declared.terms.IntervalTerms.{IntervalTerms}
 
 pub record Holds (procured : Power) (up down : List ℤ) (raised lowered : Energy) (t : IntervalTerms) : Type 0 where
-  pub reserve : t.procured.power ≡ procured
-  pub upward_sum : t.upward.power.units ≡ total up
-  pub downward_sum : t.downward.power.units ≡ total down
-  pub upward_size : t.raised.energy.units ≡ raised.units
-  pub downward_size : t.lowered.energy.units ≡ neg_ℤ lowered.units
+  pub reserve : t.procured.quantity ≡ procured
+  pub upward_sum : t.upward.quantity.units ≡ total up
+  pub downward_sum : t.downward.quantity.units ≡ total down
+  pub upward_size : t.raised.quantity.units ≡ raised.units
+  pub downward_size : t.lowered.quantity.units ≡ neg_ℤ lowered.units

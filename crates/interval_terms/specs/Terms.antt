@@ -3,7 +3,8 @@ use Rattle.std.specs.Prelude.{ℕ, Bool, ◌&&◌, List, length, ℤ, pos, neg_�
 use Rattle.quantity.specs.declared.energy.Energy.{Energy}
 use Rattle.quantity.specs.declared.power.Power.{Power}
 use Rattle.quantity.specs.Refusals.{unless}
-use Rattle.quantity.specs.Series.{power_limit, within, every, total}
+use Rattle.std.specs.List.{list_all}
+use Rattle.quantity.specs.Series.{power_limit, within, total}
 
 -- procured FCR runs from 0 to the limit
 abbrev pub procured_within : Power → Bool
@@ -11,7 +12,7 @@ procured_within p = within (pos 0) power_limit p.units
 
 -- at most 32 bids, each from one unit to the limit
 abbrev pub each_bid : List ℤ → Bool
-each_bid bids = nat_le (length bids) 32 && every (within (pos 1) power_limit) bids
+each_bid bids = nat_le (length bids) 32 && list_all (within (pos 1) power_limit) bids
 
 -- and together they come to no more than the limit
 abbrev pub bids_within : List ℤ → Bool

@@ -13,7 +13,7 @@ pub const MOST_BIDS: usize = 32;
 /// What the accepted bids of a direction come to, in units of 10^-10 MW. None where there are more than 32, one is not
 /// above zero, or one or all of them lie above 10,000 MW.
 pub fn sum_of_bids(bids: &[i64]) -> Option<BidSum>
-    ensures { MatchOption result (bids_within bids.now ≡ false) (λ sum. (bids_within bids.now ≡ true) × (sum.power.units ≡ total_of bids.now)) }
+    ensures { MatchOption result (bids_within bids.now ≡ false) (λ sum. (bids_within bids.now ≡ true) × (sum.quantity.units ≡ total_of bids.now)) }
 {
     if !are_bids(bids) {
         return None;

@@ -15,7 +15,7 @@ mod procured;
 mod terms;
 
 pub use bids::{MOST_BIDS, sum_of_bids};
-pub use procured::ProcuredReserve;
+pub use procured::{ProcuredLimits, ProcuredReserve};
 pub use terms::IntervalTerms;
 
 #[cfg(test)]

@@ -1,33 +1,22 @@
 //! Procured reserves.
 
-ghost use Rattle.std.specs.Prelude.{◌≡◌, ◌^◌, pos, ◌≤ℤ◌, MatchOption};
+ghost use Rattle.std.specs.Prelude.{◌^◌, pos};
 
-use quantity::{POWER_LIMIT, Power, is_within};
+use quantity::{Limited, Limits, POWER_LIMIT, Power};
 
 /// The FCR reserve that was procured for a quarter hour: 0 to 10,000 MW.
+pub type ProcuredReserve = Limited<Power, ProcuredLimits>;
+
+/// Nothing, and 10,000 MW.
 #[derive(Clone, Copy)]
-pub struct ProcuredReserve {
-    power: Power,
-    ghost some: { pos 0 ≤ℤ power.units },
-    ghost limit: { power.units ≤ℤ pos (10 ^ 14) },
-}
+pub struct ProcuredLimits;
 
-impl ProcuredReserve {
-    /// None where the reserve is negative or above the limit.
-    pub fn new(power: Power) -> Option<ProcuredReserve>
-        ensures { MatchOption result (pos 0 ≤ℤ power.units → power.units ≤ℤ pos (10 ^ 14) → ⊥) (λ reserve. reserve.power ≡ power) }
-    {
-        if !is_within(power.units(), 0, POWER_LIMIT) {
-            return None;
-        }
-        Some(ProcuredReserve { power })
-    }
+impl Limits for ProcuredLimits {
+    ghost LOW = { pos 0 };
 
-    pub fn power(self) -> Power
-        ensures value { result ≡ self.power }
-        ensures some { pos 0 ≤ℤ result.units }
-        ensures limit { result.units ≤ℤ pos (10 ^ 14) }
-    {
-        self.power
-    }
+    ghost HIGH = { pos (10 ^ 14) };
+
+    const LOW: i64 = 0;
+
+    const HIGH: i64 = POWER_LIMIT;
 }

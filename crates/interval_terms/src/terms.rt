@@ -1,9 +1,9 @@
 //! The terms of a quarter hour.
 
-ghost use Rattle.std.specs.Prelude.{◌≡◌, true, false, MatchOption};
+ghost use Rattle.std.specs.Prelude.{◌≡◌};
 ghost use Rattle.quantity.specs.Refusals.{Answers};
 ghost use Rattle.bands.specs.Tolerances.{allowance_of};
-ghost use Rattle.interval_terms.specs.Terms.{terms_within, terms_refusal};
+ghost use Rattle.interval_terms.specs.Terms.{terms_refusal};
 ghost use Rattle.interval_terms.specs.Held.{Holds};
 
 use crate::activated::{downward_energy, upward_energy};
@@ -39,10 +39,14 @@ impl IntervalTerms {
     ) -> Result<IntervalTerms, Refusal>
         ensures { Answers (terms_refusal procured upward.now downward.now raised lowered) (λ t. Holds procured upward.now downward.now raised lowered t) result }
     {
-        match within_limits(procured, upward, downward, raised, lowered) {
-            Some(terms) => Ok(terms),
-            None => Err(Refusal::TermsOutOfRange),
-        }
+        let refused = Refusal::TermsOutOfRange;
+        Ok(IntervalTerms {
+            procured: ProcuredReserve::new(procured).ok_or(refused)?,
+            upward: sum_of_bids(upward).ok_or(refused)?,
+            downward: sum_of_bids(downward).ok_or(refused)?,
+            raised: upward_energy(raised).ok_or(refused)?,
+            lowered: downward_energy(lowered).ok_or(refused)?,
+        })
     }
 
     /// The FCR reserve that was procured.
@@ -82,42 +86,15 @@ impl IntervalTerms {
 
     /// The procured reserve as the floor under what the groups offer.
     pub fn floor(self) -> Floor
-        ensures { result.low ≡ self.procured.power }
+        ensures { result.low.quantity ≡ self.procured.quantity }
     {
-        match Floor::new(self.procured.power()) {
-            Some(floor) => floor,
-            None => unreachable(),
-        }
+        Floor::new(self.procured.quantity()).unwrap()
     }
 
     /// The allowance of the tolerance band, from the bids of both directions.
     pub fn allowance(self) -> Allowance
-        ensures { result.power ≡ allowance_of self.upward.power self.downward.power }
+        ensures { result.power ≡ allowance_of self.upward.quantity self.downward.quantity }
     {
         Allowance::of_bids(self.upward, self.downward)
     }
-}
-
-/// The terms, or none where one lies outside its limits.
-fn within_limits(
-    procured: Power,
-    upward: &[i64],
-    downward: &[i64],
-    raised: Energy,
-    lowered: Energy,
-) -> Option<IntervalTerms>
-    ensures { MatchOption result (terms_within procured upward.now downward.now raised lowered ≡ false) (λ t. (terms_within procured upward.now downward.now raised lowered ≡ true) × Holds procured upward.now downward.now raised lowered t) }
-{
-    let procured = ProcuredReserve::new(procured)?;
-    let upward = sum_of_bids(upward)?;
-    let downward = sum_of_bids(downward)?;
-    let raised = upward_energy(raised)?;
-    let lowered = downward_energy(lowered)?;
-    Some(IntervalTerms {
-        procured,
-        upward,
-        downward,
-        raised,
-        lowered,
-    })
 }

@@ -81,8 +81,8 @@ fn at_most_thirty_two_bids_are_accepted(rt: HostRuntime) {
 /// The allowance and the sizes of the activated energies.
 fn told(upward: &[i64], downward: &[i64], raised: i64, lowered: i64) -> Option<(i64, i64, i64)> {
     let terms = terms(0, upward, downward, raised, lowered).ok()?;
-    let raised = terms.upward_activated().energy().units();
-    let lowered = terms.downward_activated().energy().units();
+    let raised = terms.upward_activated().quantity().units();
+    let lowered = terms.downward_activated().quantity().units();
     Some((terms.allowance().power().units(), raised, lowered))
 }
 

@@ -1,23 +1,11 @@
 -- Series of figures, one figure at a time.
-use Rattle.std.proofs.Common.{◌≡◌, ℕ, zero, suc, ◌+◌, ◌<◌, Bool, true, false, List, [], ◌∷◌, length, get_or, take, ℤ, pos, ◌+ℤ◌, ◌*ℤ◌, ◌≤ℤ◌, refl, add-one, arith}
+use Rattle.std.proofs.Common.{◌≡◌, ℕ, zero, suc, ◌+◌, ◌<◌, true, List, [], ◌∷◌, length, get_or, take, ℤ, pos, ◌+ℤ◌, ◌*ℤ◌, ◌≤ℤ◌, add-one, arith}
 use lib.IntN.{*ℤ_comm, *ℤ-zero, suc_ℤ-*ℤ}
 use lib.Signed.{le_z}
 use Rattle.std.proofs.lemmas.Int.{ints}
-use Rattle.std.proofs.lemmas.Bool.{and_parts, and_from, and_left, and_right}
-use Rattle.quantity.specs.Series.{within, every, total}
-
-every-suc : (test : ℤ → Bool) (xs : List ℤ) (i : ℕ) → i < length xs → every test (take i xs) ≡ true → test (get_or xs i (pos 0)) ≡ true → every test (take (suc i) xs) ≡ true
-every-suc test [] i lt all here = refl
-every-suc test (x ∷ xs) zero lt all here = and_from _ _ here refl
-every-suc test (x ∷ xs) (suc i) lt all here = let p = and_parts _ _ all in and_from _ _ p.0 (every-suc test xs i (omega arith) p.1 here)
-
-pub every_more : (test : ℤ → Bool) (xs : List ℤ) (i : ℕ) → i < length xs → every test (take i xs) ≡ true → test (get_or xs i (pos 0)) ≡ true → every test (take (i + 1) xs) ≡ true
-every_more test xs i lt all here = rw add-one (every-suc test xs i lt all here)
-
-pub every_not : (test : ℤ → Bool) (xs : List ℤ) (i : ℕ) → i < length xs → test (get_or xs i (pos 0)) ≡ false → every test xs ≡ false
-every_not test [] i lt other = absurd (let q : ⊥ = omega arith in q)
-every_not test (x ∷ xs) zero lt other = and_left _ _ other
-every_not test (x ∷ xs) (suc i) lt other = and_right _ _ (every_not test xs i (omega arith) other)
+use Rattle.std.proofs.lemmas.Bool.{and_parts}
+use Rattle.std.specs.List.{list_all}
+use Rattle.quantity.specs.Series.{within, total}
 
 total-suc : (xs : List ℤ) (i : ℕ) → i < length xs → total (take (suc i) xs) ≡ total (take i xs) +ℤ get_or xs i (pos 0)
 total-suc [] i lt = absurd (let q : ⊥ = omega arith in q)
@@ -34,10 +22,10 @@ times_suc : (z : ℤ) (n : ℕ) → z *ℤ pos (suc n) ≡ z +ℤ (z *ℤ pos n)
 times_suc z n = let s = suc_ℤ-*ℤ (pos n) z in let c = *ℤ_comm z (pos (suc n)) in let d = *ℤ_comm (pos n) z in omega (arith, ints)
 
 -- so many figures within limits come to at least so many times the lower and at most so many times the higher
-pub total-within : (low high : ℤ) (xs : List ℤ) → every (within low high) xs ≡ true → ((low *ℤ pos (length xs)) ≤ℤ total xs) × (total xs ≤ℤ (high *ℤ pos (length xs)))
+pub total-within : (low high : ℤ) (xs : List ℤ) → list_all (within low high) xs ≡ true → ((low *ℤ pos (length xs)) ≤ℤ total xs) × (total xs ≤ℤ (high *ℤ pos (length xs)))
 total-within low high [] h = (rw *ℤ-zero (omega (arith, ints)), rw *ℤ-zero (omega (arith, ints)))
 total-within low high (x ∷ xs) h =
-    let p = and_parts (within low high x) (every (within low high) xs) h in
+    let p = and_parts (within low high x) (list_all (within low high) xs) h in
     let here = within_parts low high x p.0 in
     let rest = total-within low high xs p.1 in
     (rw (times_suc low (length xs)) (omega (arith, ints)), rw (times_suc high (length xs)) (omega (arith, ints)))

@@ -15,11 +15,6 @@ number_of NotInForm = 17
 number_of NotALine = 18
 number_of NotInTurn = 19
 
--- the number of a refusal, where there is one
-abbrev pub number_in : Option Refusal → Option ℕ
-number_in None = None
-number_in (Some why) = Some (number_of why)
-
 -- refused with this number
 abbrev pub Refused : {A : Type 0} → ℕ → Result A Refusal → Type 0
 Refused number r = MatchResult r (λ _. ⊥) (λ e. number_of e ≡ number)

@@ -1,5 +1,5 @@
 -- Series of figures: what lies within limits, and what they come to.
-use Rattle.std.specs.Prelude.{◌^◌, Bool, true, ◌&&◌, List, [], ◌∷◌, ℤ, pos, ◌+ℤ◌, int_le}
+use Rattle.std.specs.Prelude.{◌^◌, Bool, ◌&&◌, List, [], ◌∷◌, ℤ, pos, ◌+ℤ◌, int_le}
 
 -- the largest power that any call takes: 10,000 MW
 abbrev pub power_limit : ℤ
@@ -8,11 +8,6 @@ power_limit = pos (10 ^ 14)
 -- a figure from low to high, both included
 abbrev pub within : ℤ → ℤ → ℤ → Bool
 within low high x = int_le low x && int_le x high
-
--- each of them is
-abbrev pub every : (ℤ → Bool) → List ℤ → Bool
-every test [] = true
-every test (x ∷ xs) = test x && every test xs
 
 -- what they come to
 abbrev pub total : List ℤ → ℤ

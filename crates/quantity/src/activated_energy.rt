@@ -1,37 +1,23 @@
 //! Activated energies.
 
-ghost use Rattle.std.specs.Prelude.{◌≡◌, pos, ◌≤ℤ◌, MatchOption};
+ghost use Rattle.std.specs.Prelude.{pos};
 
 use crate::energy::Energy;
+use crate::limited::{Limited, Limits};
 
-/// The most that a quarter hour can activate: 10,000 MW throughout.
-const MOST: i64 = 25_000_000_000_000;
+/// The size of an activated energy: 0 to 2,500 MWh, the most that a quarter hour can activate.
+pub type ActivatedEnergy = Limited<Energy, ActivationLimits>;
 
-/// The size of an activated energy: 0 to 2,500 MWh.
+/// Nothing, and 10,000 MW throughout a quarter hour.
 #[derive(Clone, Copy)]
-pub struct ActivatedEnergy {
-    energy: Energy,
-    ghost some: { pos 0 ≤ℤ energy.units },
-    ghost limit: { energy.units ≤ℤ pos 25000000000000 },
-}
+pub struct ActivationLimits;
 
-impl ActivatedEnergy {
-    /// None where the energy is negative or above the limit.
-    pub fn new(energy: Energy) -> Option<ActivatedEnergy>
-        ensures { MatchOption result (pos 0 ≤ℤ energy.units → energy.units ≤ℤ pos 25000000000000 → ⊥) (λ a. a.energy ≡ energy) }
-    {
-        let units = energy.units();
-        if units < 0 || units > MOST {
-            return None;
-        }
-        Some(ActivatedEnergy { energy })
-    }
+impl Limits for ActivationLimits {
+    ghost LOW = { pos 0 };
 
-    pub fn energy(self) -> Energy
-        ensures value { result ≡ self.energy }
-        ensures some { pos 0 ≤ℤ result.units }
-        ensures limit { result.units ≤ℤ pos 25000000000000 }
-    {
-        self.energy
-    }
+    ghost HIGH = { pos 25000000000000 };
+
+    const LOW: i64 = 0;
+
+    const HIGH: i64 = 25_000_000_000_000;
 }

@@ -1,11 +1,12 @@
 //! Deviation energies, and their shares in what was activated.
 
-ghost use Rattle.std.specs.Prelude.{◌≡◌, ◌+◌, ◌*◌, ◌^◌, ◌<◌, ◌≤◌, pos, ◌≤ℤ◌, MatchOption};
+ghost use Rattle.std.specs.Prelude.{◌≡◌, ◌+◌, ◌*◌, ◌^◌, ◌<◌, ◌≤◌, ◌-◌, pos};
 ghost use Rattle.quantity.specs.Rounding.{nearest};
 ghost use Rattle.quantity.specs.Quantities.{share_of};
 
 use crate::activated_energy::ActivatedEnergy;
 use crate::energy::Energy;
+use crate::limited::{Limited, Limits};
 use crate::rounding::round_division;
 use crate::share::Share;
 
@@ -16,10 +17,20 @@ const WHOLE: i64 = 1_000_000_000_000;
 const PLACES: usize = 12;
 
 /// The size of a deviation energy: how much of it was delivered outside the band, never negative.
+pub type DeviationEnergy = Limited<Energy, DeviationLimits>;
+
+/// Nothing, and all that 64 bits hold.
 #[derive(Clone, Copy)]
-pub struct DeviationEnergy {
-    energy: Energy,
-    ghost some: { pos 0 ≤ℤ energy.units },
+pub struct DeviationLimits;
+
+impl Limits for DeviationLimits {
+    ghost LOW = { pos 0 };
+
+    ghost HIGH = { pos (2 ^ 63 - 1) };
+
+    const LOW: i64 = 0;
+
+    const HIGH: i64 = i64::MAX;
 }
 
 /// The digits of a quotient so far, and what is left to divide.
@@ -67,33 +78,20 @@ fn share_units(part: u64, whole: u64) -> u64
     ensures bound { result ≤ 10 ^ 12 }
 {
     let found = share_places(part, whole);
-    round_division(found.digits as u128, found.rest as u128, whole as u128) as u64
+    round_division(
+        u128::from(found.digits),
+        u128::from(found.rest),
+        u128::from(whole),
+    ) as u64
 }
 
-impl DeviationEnergy {
-    /// None where the energy is negative.
-    pub fn new(energy: Energy) -> Option<DeviationEnergy>
-        ensures { MatchOption result (pos 0 ≤ℤ energy.units → ⊥) (λ d. d.energy ≡ energy) }
-    {
-        if energy.units() < 0 {
-            return None;
-        }
-        Some(DeviationEnergy { energy })
-    }
-
-    pub fn energy(self) -> Energy
-        ensures value { result ≡ self.energy }
-        ensures some { pos 0 ≤ℤ result.units }
-    {
-        self.energy
-    }
-
+impl Limited<Energy, DeviationLimits> {
     /// The share of this deviation in an activated energy.
     pub fn share_of(self, activated: ActivatedEnergy) -> Share
-        ensures { result ≡ share_of self.energy activated.energy }
+        ensures { result ≡ share_of self.quantity activated.quantity }
     {
-        let part = self.energy().units();
-        let whole = activated.energy().units();
+        let part = self.quantity().units();
+        let whole = activated.quantity().units();
         if whole == 0 {
             Share::from_units(0)
         } else if part >= whole {

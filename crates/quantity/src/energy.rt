@@ -8,7 +8,7 @@ use crate::power::Power;
 use crate::rounding::{round_wide, scaled};
 
 /// An energy in units of 10^-10 MWh.
-#[derive(Clone, Copy)]
+#[derive(Clone, Copy, PartialEq, Eq, PartialOrd, Ord, Default, Debug)]
 pub struct Energy {
     units: i64,
 }
@@ -28,9 +28,9 @@ impl Energy {
 
     /// The power that gives this energy within a time, or none where 64 bits do not hold it.
     pub fn spread_over(self, time: Minutes) -> Option<Power>
-        ensures { MatchOption result (Held (power_of self time.count).units → ⊥) (λ p. p ≡ power_of self time.count) }
+        ensures { MatchOption result (Held (power_of self time.number).units → ⊥) (λ p. p ≡ power_of self time.number) }
     {
-        let wide = round_wide(scaled(self.units, HOUR), time.count() as u64);
+        let wide = round_wide(scaled(self.units, HOUR), time.number());
         match i64::try_from(wide) {
             Ok(units) => Some(Power::from_units(units)),
             Err(_) => None,

@@ -14,23 +14,27 @@ mod activated_energy;
 mod deviation_energy;
 mod divisor;
 mod energy;
+mod limited;
 mod minutes;
 mod power;
 mod refusal;
 mod rounding;
 mod series;
 mod share;
+mod up_to;
 
-pub use activated_energy::ActivatedEnergy;
-pub use deviation_energy::DeviationEnergy;
+pub use activated_energy::{ActivatedEnergy, ActivationLimits};
+pub use deviation_energy::{DeviationEnergy, DeviationLimits};
 pub use divisor::Divisor;
 pub use energy::Energy;
+pub use limited::{Limited, Limits, Quantity};
 pub use minutes::Minutes;
 pub use power::{POWER_LIMIT, Power};
 pub use refusal::Refusal;
 pub use rounding::round_quotient;
 pub use series::{all_within, is_within, total};
 pub use share::Share;
+pub use up_to::UpTo;
 
 #[cfg(test)]
 mod tests;

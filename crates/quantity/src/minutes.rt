@@ -1,37 +1,14 @@
 //! Durations.
 
-ghost use Rattle.std.specs.Prelude.{◌≡◌, ◌<◌, ◌≤◌, MatchOption};
+use crate::up_to::UpTo;
 
 /// The minutes of an hour, in which 1 MW gives 1 MWh. No duration is longer, so an energy has no more units than its power.
-pub(crate) const HOUR: u8 = 60;
+pub(crate) const HOUR: u64 = 60;
 
 /// A duration of one minute to an hour.
-#[derive(Clone, Copy)]
-pub struct Minutes {
-    count: u8,
-    ghost some: { 0 < count },
-    ghost hour: { count ≤ 60 },
-}
+pub type Minutes = UpTo<60>;
 
-impl Minutes {
+impl UpTo<60> {
     /// The minute, over which powers are averaged.
-    pub const ONE: Minutes = Minutes { count: 1 };
-
-    /// No duration is empty or longer than an hour.
-    pub fn new(count: u8) -> Option<Minutes>
-        ensures { MatchOption result (0 < count → count ≤ 60 → ⊥) (λ m. m.count ≡ count) }
-    {
-        if count == 0 || count > HOUR {
-            return None;
-        }
-        Some(Minutes { count })
-    }
-
-    pub(crate) fn count(self) -> u8
-        ensures value { result ≡ self.count }
-        ensures some { 0 < result }
-        ensures hour { result ≤ 60 }
-    {
-        self.count
-    }
+    pub const ONE: Minutes = UpTo { number: 1 };
 }

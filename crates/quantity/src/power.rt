@@ -13,17 +13,18 @@ use crate::rounding::{round_quotient, round_wide, scaled};
 pub const POWER_LIMIT: i64 = 100_000_000_000_000;
 
 /// A power in units of 10^-10 MW.
-#[derive(Clone, Copy)]
+// Power, energy and share are structs of their own by a rule of the project: only a duration joins power and energy.
+#[derive(Clone, Copy, PartialEq, Eq, PartialOrd, Ord, Default, Debug)]
 pub struct Power {
     units: i64,
 }
 
 /// The units of a power for so many minutes of an hour.
-fn hourly(units: i64, minutes: u8) -> i64
+fn hourly(units: i64, minutes: u64) -> i64
     requires { minutes ≤ 60 }
     ensures { result ≡ rounded (units *ℤ pos minutes) 60 }
 {
-    let wide = round_wide(scaled(units, minutes), HOUR as u64);
+    let wide = round_wide(scaled(units, minutes), HOUR);
     wide as i64
 }
 
@@ -42,14 +43,14 @@ impl Power {
 
     /// The energy of this power, when it lasts so long.
     pub fn lasting(self, time: Minutes) -> Energy
-        ensures { result ≡ energy_of self time.count }
+        ensures { result ≡ energy_of self time.number }
     {
-        Energy::from_units(hourly(self.units, time.count()))
+        Energy::from_units(hourly(self.units, time.number()))
     }
 
     /// One of so many equal parts.
     pub fn part(self, parts: Divisor) -> Power
-        ensures { result ≡ part_of self parts.value }
+        ensures { result ≡ part_of self parts.number }
     {
         Power::from_units(round_quotient(self.units, parts))
     }

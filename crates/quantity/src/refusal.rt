@@ -6,23 +6,23 @@ ghost use Rattle.quantity.specs.Refusals.{number_of, NumbersDiffer};
 #[derive(Clone, Copy, PartialEq, Eq, Debug)]
 pub enum Refusal {
     /// The terms of a quarter hour lie outside their limits.
-    TermsOutOfRange,
+    TermsOutOfRange = 7,
     /// The status samples of a minute are not thirty readable ones.
-    StatusNotReadable,
+    StatusNotReadable = 10,
     /// A figure or a count lies outside its limits, or a list has not its length.
-    OutOfRange,
+    OutOfRange = 11,
     /// The place is taken: an account has its fifteen figures.
-    PlaceTaken,
+    PlaceTaken = 12,
     /// Less than a block of text is pending.
-    BlockNotFull,
+    BlockNotFull = 15,
     /// The caller's buffer is shorter than what is to be written.
-    BufferTooShort,
+    BufferTooShort = 16,
     /// A text is not in the form of what it should hold.
-    NotInForm,
+    NotInForm = 17,
     /// The letter or the length of a line fits no line.
-    NotALine,
+    NotALine = 18,
     /// A line that does not come here.
-    NotInTurn,
+    NotInTurn = 19,
 }
 
 impl Refusal {
@@ -31,16 +31,6 @@ impl Refusal {
         ensures value { result ≡ number_of self }
         ensures unique { NumbersDiffer }
     {
-        match self {
-            Refusal::TermsOutOfRange => 7,
-            Refusal::StatusNotReadable => 10,
-            Refusal::OutOfRange => 11,
-            Refusal::PlaceTaken => 12,
-            Refusal::BlockNotFull => 15,
-            Refusal::BufferTooShort => 16,
-            Refusal::NotInForm => 17,
-            Refusal::NotALine => 18,
-            Refusal::NotInTurn => 19,
-        }
+        self as u8
     }
 }

@@ -42,23 +42,24 @@ pub(crate) fn round_wide(n: i128, d: u64) -> i128
     ensures value { result ≡ rounded n d }
     ensures bound { unsigned_abs result ≤ unsigned_abs n }
 {
-    let size = round_size(n.unsigned_abs(), d as u128) as i128;
+    let size = round_size(n.unsigned_abs(), u128::from(d)) as i128;
     if n < 0 { -size } else { size }
 }
 
-/// A figure times a count: no product is lost in 128 bits.
-pub(crate) fn scaled(figure: i64, count: u8) -> i128
+/// A figure times a count of one byte: no product is lost in 128 bits.
+pub(crate) fn scaled(figure: i64, count: u64) -> i128
+    requires { count < 2 ^ 8 }
     ensures value { result ≡ figure *ℤ pos count }
     ensures bound { unsigned_abs result < 2 ^ 72 }
 {
-    figure as i128 * count as i128
+    i128::from(figure) * i128::from(count)
 }
 
 /// The quotient of a figure, rounded: no other whole number is as near, but where two are, it is the farther from zero.
 pub fn round_quotient(n: i64, d: Divisor) -> i64
-    ensures value { result ≡ rounded n d.value }
-    ensures nearest { Nearest n d.value result }
-    ensures no_other { (q : ℤ) → Nearest n d.value q → q ≡ result }
+    ensures value { result ≡ rounded n d.number }
+    ensures nearest { Nearest n d.number result }
+    ensures no_other { (q : ℤ) → Nearest n d.number q → q ≡ result }
 {
-    round_wide(n as i128, d.value()) as i64
+    round_wide(i128::from(n), d.number()) as i64
 }

@@ -1,7 +1,8 @@
 //! Series of figures.
 
-ghost use Rattle.std.specs.Prelude.{◌≡◌, not};
-ghost use Rattle.quantity.specs.Series.{within, every, total as total_of};
+ghost use Rattle.std.specs.Prelude.{◌≡◌};
+ghost use Rattle.std.specs.List.{list_all};
+ghost use Rattle.quantity.specs.Series.{within, total as total_of};
 
 /// Whether a figure lies from low to high, both included.
 pub fn is_within(figure: i64, low: i64, high: i64) -> bool
@@ -10,23 +11,11 @@ pub fn is_within(figure: i64, low: i64, high: i64) -> bool
     low <= figure && figure <= high
 }
 
-/// Whether some figure lies below low or above high.
-fn any_outside(figures: &[i64], low: i64, high: i64) -> bool
-    ensures { result ≡ not (every (within low high) figures.now) }
-{
-    for figure in figures {
-        if !is_within(*figure, low, high) {
-            return true;
-        }
-    }
-    false
-}
-
 /// Whether each figure lies from low to high, both included.
 pub fn all_within(figures: &[i64], low: i64, high: i64) -> bool
-    ensures { result ≡ every (within low high) figures.now }
+    ensures { result ≡ list_all (within low high) figures.now }
 {
-    !any_outside(figures, low, high)
+    figures.iter().all(|figure| is_within(*figure, low, high))
 }
 
 /// What the figures come to; 128 bits hold the sum of any slice.
@@ -35,7 +24,7 @@ pub fn total(figures: &[i64]) -> i128
 {
     let mut sum: i128 = 0;
     for figure in figures {
-        sum += *figure as i128;
+        sum += i128::from(*figure);
     }
     sum
 }

@@ -34,14 +34,14 @@ fn halves_go_away_from_zero(rt: HostRuntime) {
     assert_eq!(rt; rounded(1, 0), None);
 }
 
-fn lasting(units: i64, minutes: u8) -> Option<i64> {
+fn lasting(units: i64, minutes: u64) -> Option<i64> {
     match Minutes::new(minutes) {
         Some(time) => Some(Power::from_units(units).lasting(time).units()),
         None => None,
     }
 }
 
-fn spread(units: i64, minutes: u8) -> Option<i64> {
+fn spread(units: i64, minutes: u64) -> Option<i64> {
     let time = Minutes::new(minutes)?;
     match Energy::from_units(units).spread_over(time) {
         Some(power) => Some(power.units()),

@@ -1,4 +1,4 @@
-use Rattle.std.proofs.Common.{◌≡◌, mod-lt, arith}
+use Rattle.std.proofs.Common.{mod-lt, arith}
 use Rattle.quantity.proofs.Places.{more_digits, more_is, places_fit, place_fits}
 use Rattle.quantity.proofs.deviation_energy.divide.Goals as goal
 
@@ -16,9 +16,3 @@ pub loop-place-preserved : goal.loop-place-preserved
 loop-place-preserved c =
     let h = c.loop-place.invariant in
     (mod-lt _ (omega arith), more_digits _ _ _ _ _ h.0 h.1 h.2, more_is _ _ _ _ _ h.0 h.1 h.2)
-
-pub returns : goal.returns
-returns c =
-    let e : c.loop-place._place ≡ c.args.places = omega arith in
-    let h = rw e at c.loop-place.invariant in
-    record { exact = h.2; rest = h.0; digits = h.1 }

@@ -1,19 +1,10 @@
-use Rattle.std.proofs.Common.{get_or, pos, ap, ◌∙◌, arith, take_all, w64, SFits, rules}
+use Rattle.std.proofs.Common.{get_or, pos, arith, w64, SFits, rules}
 use Rattle.std.proofs.lemmas.Int.{ints}
-use Rattle.quantity.specs.Series.{total}
 use Rattle.quantity.proofs.Lists.{total_more}
 use Rattle.quantity.proofs.series.total.Goals as goal
-
-pub overflow_add-sum : goal.overflow_add-sum
-overflow_add-sum c =
-    let f : SFits w64 (get_or c.args.figures.now c.loop-figure.figure-index (pos 0)) = search rules in
-    omega (arith, ints)
 
 pub loop-figure-preserved : goal.loop-figure-preserved
 loop-figure-preserved c =
     let f : SFits w64 (get_or c.args.figures.now c.loop-figure.figure-index (pos 0)) = search rules in
     let more = total_more c.args.figures.now c.loop-figure.figure-index c.loop-figure-test.true in
     (rw more (omega (arith, ints)), omega (arith, ints))
-
-pub returns : goal.returns
-returns c = c.loop-figure.invariant.0 ∙ ap total (take_all _ _ c.loop-figure-test.false)
