@@ -1,16 +1,17 @@
 -- The text of a count gives its number, and is known by it.
-use Rattle.std.proofs.Common.{◌≡◌, ℕ, zero, suc, ◌+◌, ◌-◌, ◌*◌, ◌/◌, ◌%◌, ◌^◌, ◌<◌, ◌≤◌, true, false, ltb, List, [], ◌∷◌, ◌++◌, length, replicate, decimal, Decides, sym, refl, ap, ◌∙◌, inl, inr, mul_comm, pow-suc, arith, rules}
+use Rattle.std.proofs.Common.{◌≡◌, ℕ, zero, suc, ◌+◌, ◌-◌, ◌*◌, ◌/◌, ◌%◌, ◌^◌, ◌<◌, ◌≤◌, true, false, ltb, List, [], ◌∷◌, ◌++◌, length, replicate, decimal, sym, refl, ap, ◌∙◌, inl, inr, mul_comm, pow-suc, arith}
 use native.Mathlib.Nat.{div-div-eq-div-mul}
 use Rattle.std.specs.Str.Parse.{AllDigits}
 use Rattle.std.specs.List.{AllByRecursion}
+use Rattle.std.specs.Str.{bytes_eq}
 use Rattle.std.proofs.lemmas.Fmt.{decimal_by_steps, decimal_is_IsNumeral}
 use Rattle.std.proofs.ByRecursion.{All-append}
-use Rattle.std.proofs.lemmas.Slice.Eq.{compares_Decides}
+use Rattle.std.proofs.lemmas.Slice.Eq.{bytes_eq-Decides}
 use Rattle.std.proofs.lemmas.Str.Parse.{digit_from_value}
 use Rattle.std.proofs.lemmas.Bool.{and_from, and_parts, cases_Bool, lt-ltb, ltb-true}
 use Rattle.std.proofs.lemmas.Bool.Decides.{nat_tests}
 use Rattle.count_text.specs.Columns.{count_text_of, CountIn, last_digits}
-use Rattle.count_text.specs.Forms.{number_from, number_in, same_text, is_count}
+use Rattle.count_text.specs.Forms.{number_from, number_in, is_count}
 use Rattle.count_text.proofs.Decimals.{pow_ten_le}
 
 -- ---- the number that a text gives
@@ -46,11 +47,6 @@ number_last (suc w) n =
     let i : number_from (n / 10 ^ suc w) (last_digits w (n / 10)) ≡ n / 10 = rw d (number_last w (n / 10)) in
     omega arith
 
--- ---- two texts
-pub same_text_decides : (xs ys : List ℕ) → Decides (same_text xs ys) (xs ≡ ys)
-unfolding same_text
-same_text_decides = compares_Decides same_text (search rules)
-
 -- ---- counts
 pub count_number : (w n : ℕ) (text : List ℕ) → w ≤ 18 → CountIn w n text → number_in text ≡ n
 unfolding number_in
@@ -62,13 +58,13 @@ pub is_count_lem : (w n : ℕ) (text : List ℕ) → w ≤ 18 → CountIn w n te
 unfolding is_count
 is_count_lem w n text few h =
     let e = count_number w n text few h in
-    rw e (and_from _ _ (lt-ltb n (10 ^ w) h.0) ((same_text_decides text (count_text_of w n)).1 h.1))
+    rw e (and_from _ _ (lt-ltb n (10 ^ w) h.0) ((bytes_eq-Decides text (count_text_of w n)).1 h.1))
 
 pub count_in : (w : ℕ) (text : List ℕ) → is_count w text ≡ true → CountIn w (number_in text) text
 unfolding is_count
 count_in w text h =
-    let p = and_parts (ltb (number_in text) (10 ^ w)) (same_text text (count_text_of w (number_in text))) h in
-    (ltb-true (number_in text) (10 ^ w) p.0, (same_text_decides text (count_text_of w (number_in text))).0 p.1)
+    let p = and_parts (ltb (number_in text) (10 ^ w)) (bytes_eq text (count_text_of w (number_in text))) h in
+    (ltb-true (number_in text) (10 ^ w) p.0, (bytes_eq-Decides text (count_text_of w (number_in text))).0 p.1)
 
 pub is_not_count : (w : ℕ) (text : List ℕ) → ((n : ℕ) → CountIn w n text → ⊥) → is_count w text ≡ false
 is_not_count w text never = elim (cases_Bool (is_count w text)) [ inl e ↦ absurd (never (number_in text) (count_in w text e)) | inr e ↦ e ]

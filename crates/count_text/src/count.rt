@@ -18,7 +18,8 @@ fn put_count(n: u64, columns: &mut [u8])
 }
 
 /// Writes a count over the first columns of `out`.
-/// Refuses a count with more digits than columns (11), then a buffer with fewer bytes than columns (16); a refusal leaves every byte as it was.
+/// Refuses a count with more digits than columns (11), then a buffer with fewer bytes than columns (16); a refusal leaves
+/// every byte as it was.
 pub fn write_count(n: u64, width: Width, out: &mut [u8]) -> Result<(), Refusal>
     ensures refused_first { Writes (count_refusal width.columns n (length out.old)) result }
     ensures bytes { out.new ≡ bytes_after (count_refusal width.columns n (length out.old)) (count_text_of width.columns n) out.old }

@@ -8,8 +8,8 @@
 //! let n = read_count(&line[0..3], Width::THREE)?;  // n is 42
 //! ```
 //!
-//! Other numbers in columns are made of the same parts: [`write_fixed`] and [`read_fixed`] for digits with zeros before them,
-//! [`read_plain`] for digits with no needless zero, [`blanks`] for what stands before a number.
+//! Other numbers in columns are made of the same parts: [`write_fixed`] and [`read_fixed`] for digits with zeros before
+//! them, [`read_plain`] for digits with no needless zero, [`blanks`] for what stands before a number.
 
 #![tactic(auto)]
 
@@ -31,10 +31,11 @@ mod tests {
 
     // The number of a refusal, or 0.
     fn number<T: Drop>(answer: Result<T, Refusal>) -> u8 {
-        match answer {
-            Ok(_) => 0,
-            Err(why) => why.number(),
-        }
+        answer.err().map_or(0, |why| why.number())
+    }
+
+    fn width(columns: usize) -> Result<Width, Fail> {
+        Width::new(columns).ok_or_else(|| Fail::new("no such width"))
     }
 
     #[test]
@@ -75,12 +76,14 @@ mod tests {
     #[test]
     fn counts_written(rt: HostRuntime) -> Result<(), Fail> {
         for (columns, n, bytes, refusal) in WRITTEN {
-            let Some(width) = Width::new(columns) else {
-                return Err(Fail::new("no such width"));
-            };
             let mut buffer = [b'.'; ROOM];
             let out = &mut buffer[0..bytes.len().min(ROOM)];
-            assert_eq!(rt; number(write_count(n, width, out)), refusal, "{}", bytes);
+            assert_eq!(rt;
+                number(write_count(n, width(columns)?, out)),
+                refusal,
+                "{}",
+                bytes
+            );
             assert_eq!(rt; &out[..], bytes.as_bytes());
         }
         Ok(())
@@ -101,11 +104,8 @@ mod tests {
     #[test]
     fn counts_read(rt: HostRuntime) -> Result<(), Fail> {
         for (columns, text, n) in READ {
-            let Some(width) = Width::new(columns) else {
-                return Err(Fail::new("no such width"));
-            };
             assert_eq!(rt;
-                read_count(text.as_bytes(), width).ok(),
+                read_count(text.as_bytes(), width(columns)?).ok(),
                 Some(n),
                 "{}",
                 text
@@ -138,10 +138,12 @@ mod tests {
     #[test]
     fn texts_refused(rt: HostRuntime) -> Result<(), Fail> {
         for (columns, text) in REFUSED {
-            let Some(width) = Width::new(columns) else {
-                return Err(Fail::new("no such width"));
-            };
-            assert_eq!(rt; number(read_count(text.as_bytes(), width)), 17, "{}", text);
+            assert_eq!(rt;
+                number(read_count(text.as_bytes(), width(columns)?)),
+                17,
+                "{}",
+                text
+            );
         }
         Ok(())
     }

@@ -1,15 +1,18 @@
 -- The text of a figure gives the figure, and is known by it.
-use Rattle.std.proofs.Common.{◌≡◌, ℕ, zero, suc, ◌-◌, ◌/◌, ◌^◌, ◌<◌, true, false, ltb, List, [], ◌∷◌, ◌++◌, length, replicate, ℤ, pos, negsuc, neg_ℤ, nat_abs, decimal, refl, ap, ◌∙◌, inl, inr, arith}
+use Rattle.std.proofs.Common.{◌≡◌, ℕ, zero, suc, ◌-◌, ◌/◌, ◌^◌, ◌<◌, true, false, ltb, List, [], ◌∷◌, ◌++◌, length, replicate, ℤ, pos, negsuc, neg_ℤ, nat_abs, decimal, refl, ap, ◌∙◌, arith}
 use Rattle.std.specs.List.{AllByRecursion}
 use Rattle.std.proofs.ByRecursion.{All-append}
-use Rattle.std.proofs.lemmas.Bool.{and_from, and_parts, cases_Bool, cond-false, cond-true, lt-ltb, ltb-true, ne_eqb, or_from}
+use Rattle.std.proofs.lemmas.List.Elements.{All-tail}
+use Rattle.std.proofs.lemmas.Bool.{and_from, and_parts, cond-false, cond-true, false_from_ne_true, lt-ltb, ltb-true, ne_eqb, or_from}
 use Rattle.count_text.specs.Columns.{last_digits}
-use Rattle.count_text.specs.Forms.{number_from, number_in, same_text}
-use Rattle.count_text.proofs.Forms.{number_append, number_blanks, number_decimal, number_last, same_text_decides, digits_without, decimal_without, blanks_without}
+use Rattle.std.specs.Str.{bytes_eq}
+use Rattle.std.proofs.lemmas.Slice.Eq.{bytes_eq-Decides}
+use Rattle.count_text.specs.Forms.{number_from, number_in}
+use Rattle.count_text.proofs.Forms.{number_append, number_blanks, number_decimal, number_last, digits_without, decimal_without, blanks_without}
 use Rattle.count_text.proofs.LastDigits.{last_are_digits}
 use Rattle.figure_text.specs.Figures.{size_text, signed_text, figure_text_of, FigureIn}
 use Rattle.figure_text.specs.Forms.{has_minus, figure_in, is_figure}
-use Rattle.figure_text.specs.Rows.{row_text}
+use Rattle.figure_text.specs.Rows.{Writable, row_text}
 
 -- ---- the number that a text gives
 number_size : (n : ℕ) → n < 10 ^ 18 → number_from 0 (size_text n) ≡ n
@@ -39,12 +42,10 @@ signed_one_line (negsuc n) small = (λ e. omega arith, size_without 10 (suc n) (
 figure_text_one_line : (x : ℤ) → nat_abs x < 10 ^ 18 → AllByRecursion (λ b. b ≡ 10 → ⊥) (figure_text_of x)
 figure_text_one_line x small = All-append (λ b. b ≡ 10 → ⊥) _ (signed_text x) (blanks_without 10 (20 - length (signed_text x)) (λ e. omega arith)) (signed_one_line x small)
 
-pub figure_one_line : (x : ℤ) (text : List ℕ) → FigureIn x text → AllByRecursion (λ b. b ≡ 10 → ⊥) text
-figure_one_line x text h = rw h.1 (figure_text_one_line x h.0)
-
-pub row_one_line : (xs : List ℤ) → AllByRecursion (λ x. nat_abs x < 10 ^ 18) xs → AllByRecursion (λ b. b ≡ 10 → ⊥) (row_text xs)
+pub row_one_line : (xs : List ℤ) → Writable xs → AllByRecursion (λ b. b ≡ 10 → ⊥) (row_text xs)
 row_one_line [] all = tt
-row_one_line (x ∷ xs) all = All-append (λ b. b ≡ 10 → ⊥) (figure_text_of x) (row_text xs) (figure_text_one_line x all.0) (row_one_line xs all.1)
+row_one_line (x ∷ xs) all =
+    All-append (λ b. b ≡ 10 → ⊥) (figure_text_of x) (row_text xs) (figure_text_one_line x (all 0 (pos 0) (omega arith))) (row_one_line xs (All-tail (λ y. nat_abs y < 10 ^ 18) x xs all))
 
 -- ---- the minus
 no_minus : (text : List ℕ) → AllByRecursion (λ b. b ≡ 45 → ⊥) text → has_minus text ≡ false
@@ -75,13 +76,13 @@ pub is_figure_lem : (x : ℤ) (text : List ℕ) → FigureIn x text → is_figur
 unfolding is_figure
 is_figure_lem x text h =
     let e = figure_number x text h in
-    rw e (and_from _ _ (lt-ltb (nat_abs x) (10 ^ 18) h.0) ((same_text_decides text (figure_text_of x)).1 h.1))
+    rw e (and_from _ _ (lt-ltb (nat_abs x) (10 ^ 18) h.0) ((bytes_eq-Decides text (figure_text_of x)).1 h.1))
 
 pub figure_in_lem : (text : List ℕ) → is_figure text ≡ true → FigureIn (figure_in text) text
 unfolding is_figure
 figure_in_lem text h =
-    let p = and_parts (ltb (nat_abs (figure_in text)) (10 ^ 18)) (same_text text (figure_text_of (figure_in text))) h in
-    (ltb-true (nat_abs (figure_in text)) (10 ^ 18) p.0, (same_text_decides text (figure_text_of (figure_in text))).0 p.1)
+    let p = and_parts (ltb (nat_abs (figure_in text)) (10 ^ 18)) (bytes_eq text (figure_text_of (figure_in text))) h in
+    (ltb-true (nat_abs (figure_in text)) (10 ^ 18) p.0, (bytes_eq-Decides text (figure_text_of (figure_in text))).0 p.1)
 
 pub is_not_figure : (text : List ℕ) → ((x : ℤ) → FigureIn x text → ⊥) → is_figure text ≡ false
-is_not_figure text never = elim (cases_Bool (is_figure text)) [ inl e ↦ absurd (never (figure_in text) (figure_in_lem text e)) | inr e ↦ e ]
+is_not_figure text never = false_from_ne_true (is_figure text) (λ e. never (figure_in text) (figure_in_lem text e))

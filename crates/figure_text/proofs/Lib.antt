@@ -1,4 +1,5 @@
 pub mod Forms
+pub mod Parts
 pub mod Signs
 pub mod Sizes
 pub mod Wholes

@@ -1,16 +1,13 @@
 -- One more figure of a row.
-use Rattle.std.proofs.Common.{◌≡◌, ℕ, zero, suc, ◌+◌, ◌-◌, ◌*◌, ◌^◌, ◌<◌, ◌≤◌, true, false, ltb, leb, List, [], ◌∷◌, ◌++◌, length, get_or, take, drop, set, ℤ, pos, nat_abs, Some, None, Ok, Err, Decides, Result, sym, refl, ap, ◌∙◌, inl, inr, arith, MatchResult}
-use borrow.Rule.Slice.PartMut.{put_mid}
-use Rattle.std.specs.List.{AllByRecursion}
-use Rattle.std.proofs.ByRecursion.{All-take, Decides-by_and}
-use Rattle.std.proofs.lemmas.List.{append_assoc, take_at, drop_at, take-take, drop-take, take-append-drop, drop-drop, drop-set-lt, get_or-set_same, get_or-set_other, flat_map_more, length-take, length-take-le, length-drop, length-append, take_all, take_more}
-use Rattle.std.proofs.lemmas.Bool.{cases_Bool, cases_eq, le-leb, leb-true}
-use Rattle.std.proofs.lemmas.Bool.Decides.{Decides-ltb}
-use Rattle.quantity.specs.declared.refusal.Refusal.{Refusal}
-use Rattle.count_text.specs.Columns.{Writes, bytes_after}
+use Rattle.std.proofs.Common.{◌≡◌, ℕ, zero, suc, ◌+◌, ◌*◌, ◌^◌, ◌<◌, ◌≤◌, true, ltb, List, [], ◌∷◌, ◌++◌, length, get_or, take, drop, set, ℤ, pos, nat_abs, Some, None, Decides, sym, refl, ap, ◌∙◌, inl, inr, arith}
+use Rattle.std.proofs.lemmas.List.{append_assoc, take_at, drop_at, take-append-drop, take-take, drop-take, drop-drop, drop-set-lt, get_or-set_same, get_or-set_other, length-take, length-append}
+use Rattle.std.proofs.lemmas.List.Elements.{All-tail}
+use Rattle.std.proofs.lemmas.Bool.{cases_eq, le-leb, lt-leb}
+use Rattle.std.proofs.lemmas.Bool.Decides.{Decides-by_and, Decides-ltb}
+use Rattle.count_text.specs.Columns.{bytes_after}
 use Rattle.figure_text.specs.Figures.{figure_text_of, FigureIn}
 use Rattle.figure_text.proofs.Wholes.{length_figure}
-use Rattle.figure_text.specs.Rows.{row_text, writable, row_refusal, figure_field, OneFigure, Filled}
+use Rattle.figure_text.specs.Rows.{Writable, row_text, writable, row_refusal, figure_field, OneFigure, Filled}
 
 pub rest_more : (text rest after : List ℕ) (k : ℕ) → rest ≡ drop (20 * k) text → after ≡ drop 20 rest → after ≡ drop (20 * (k + 1)) text
 rest_more text rest after k is past =
@@ -55,76 +52,40 @@ row_from (x ∷ xs) text each =
     rw e (take_add 20 (20 * length xs) text ∙ rw (here, rest))
 
 -- the fields of a row, whatever stands behind it
-pub row_field : (xs : List ℤ) (after : List ℕ) (k : ℕ) → AllByRecursion (λ x. nat_abs x < 10 ^ 18) xs → k < length xs → FigureIn (get_or xs k (pos 0)) (figure_field k (row_text xs ++ after))
+pub row_field : (xs : List ℤ) (after : List ℕ) (k : ℕ) → Writable xs → k < length xs → FigureIn (get_or xs k (pos 0)) (figure_field k (row_text xs ++ after))
 row_field [] after k all lt = absurd (let q : ⊥ = omega arith in q)
 row_field (x ∷ xs) after zero all lt =
-    (all.0, ap (λ (l : List ℕ). take 20 l) (append_assoc (figure_text_of x) (row_text xs) after) ∙ take_at (figure_text_of x) (row_text xs ++ after) 20 (length_figure x all.0))
+    let small = all 0 (pos 0) (omega arith) in
+    (small, ap (take 20) (append_assoc (figure_text_of x) (row_text xs) after) ∙ take_at (figure_text_of x) (row_text xs ++ after) 20 (length_figure x small))
 row_field (x ∷ xs) after (suc k) all lt =
     let d : drop 20 ((figure_text_of x ++ row_text xs) ++ after) ≡ row_text xs ++ after =
-    ap (λ (l : List ℕ). drop 20 l) (append_assoc (figure_text_of x) (row_text xs) after) ∙ drop_at (figure_text_of x) (row_text xs ++ after) 20 (length_figure x all.0) in
-    rw (field_suc k ((figure_text_of x ++ row_text xs) ++ after), d) (row_field xs after k all.1 (omega arith))
+    ap (drop 20) (append_assoc (figure_text_of x) (row_text xs) after) ∙ drop_at (figure_text_of x) (row_text xs ++ after) 20 (length_figure x (all 0 (pos 0) (omega arith))) in
+    rw (field_suc k ((figure_text_of x ++ row_text xs) ++ after), d) (row_field xs after k (All-tail (λ y. nat_abs y < 10 ^ 18) x xs all) (omega arith))
 
-pub row_length : (xs : List ℤ) → AllByRecursion (λ x. nat_abs x < 10 ^ 18) xs → length (row_text xs) ≡ 20 * length xs
+pub row_length : (xs : List ℤ) → Writable xs → length (row_text xs) ≡ 20 * length xs
 row_length [] all = refl
 row_length (x ∷ xs) all =
-    let f = length_figure x all.0 in
-    let r = row_length xs all.1 in
+    let f = length_figure x (all 0 (pos 0) (omega arith)) in
+    let r = row_length xs (All-tail (λ y. nat_abs y < 10 ^ 18) x xs all) in
     length-append (figure_text_of x) (row_text xs) ∙ (let e : length (figure_text_of x) + length (row_text xs) ≡ 20 * suc (length xs) = omega arith in e)
 
 -- ---- a row that is written
-writable_decides : (xs : List ℤ) → Decides (writable xs) (AllByRecursion (λ x. nat_abs x < 10 ^ 18) xs)
+pub writable_decides : (xs : List ℤ) → Decides (writable xs) (Writable xs)
 writable_decides = Decides-by_and (λ x. ltb (nat_abs x) (10 ^ 18)) (λ x. nat_abs x < 10 ^ 18) writable (λ x. Decides-ltb (nat_abs x) (10 ^ 18)) refl (λ _ _. refl)
 
-pub writable_all : (xs : List ℤ) → writable xs ≡ true → AllByRecursion (λ x. nat_abs x < 10 ^ 18) xs
-writable_all xs h = (writable_decides xs).0 h
+pub writable_all : (xs : List ℤ) → writable xs ≡ true → Writable xs
+writable_all xs = (writable_decides xs).0
 
-pub all_writable : (xs : List ℤ) → AllByRecursion (λ x. nat_abs x < 10 ^ 18) xs → writable xs ≡ true
-all_writable xs all = (writable_decides xs).1 all
-
-pub columns_long : (at : ℕ) (out : List ℕ) → at + 20 ≤ length out → length (take (at + 20 - at) (drop at out)) ≡ 20
-columns_long at out le =
-    let e : at + 20 - at ≡ 20 = omega arith in
-    rw e (length-take-le 20 (drop at out) (omega (arith, length-drop at out)))
-
-row_more : (xs : List ℤ) (k : ℕ) → k < length xs → row_text (take (k + 1) xs) ≡ row_text (take k xs) ++ figure_text_of (get_or xs k (pos 0))
-row_more xs k lt = ap row_text (take_more xs k (pos 0) lt) ∙ sym (flat_map_more figure_text_of [] (take k xs) (get_or xs k (pos 0)))
-
--- one more figure over its columns
-pub row_step :
-    (xs : List ℤ) (old out part : List ℕ) (k : ℕ) → AllByRecursion (λ x. nat_abs x < 10 ^ 18) xs → k < length xs →
-    out ≡ row_text (take k xs) ++ drop (20 * k) old → part ≡ figure_text_of (get_or xs k (pos 0)) →
-    put_mid (20 * k) (20 * k + 20 - 20 * k) out part ≡ row_text (take (k + 1) xs) ++ drop (20 * (k + 1)) old
-row_step xs old out part k all lt is here =
-    let l : length (row_text (take k xs)) ≡ 20 * k =
-    row_length (take k xs) (All-take (λ x. nat_abs x < 10 ^ 18) k xs all) ∙ ap (λ (n : ℕ). 20 * n) (length-take-le k xs (omega arith)) in
-    let t : take (20 * k) out ≡ row_text (take k xs) = ap (λ (b : List ℕ). take (20 * k) b) is ∙ take_at (row_text (take k xs)) (drop (20 * k) old) (20 * k) l in
-    let d : drop (20 * k) out ≡ drop (20 * k) old = ap (λ (b : List ℕ). drop (20 * k) b) is ∙ drop_at (row_text (take k xs)) (drop (20 * k) old) (20 * k) l in
-    let n : 20 * k + (20 * k + 20 - 20 * k) ≡ 20 * (k + 1) = omega arith in
-    let r : drop (20 * k + 20 - 20 * k) (drop (20 * k) old) ≡ drop (20 * (k + 1)) old = drop-drop (20 * k + 20 - 20 * k) (20 * k) old ∙ ap (λ (m : ℕ). drop m old) n in
-    rw (t, d, r, here, row_more xs k lt) (sym (append_assoc (row_text (take k xs)) (figure_text_of (get_or xs k (pos 0))) (drop (20 * (k + 1)) old)))
-
-pub row_done : (xs : List ℤ) (old out : List ℕ) (k : ℕ) → length xs ≡ k → out ≡ row_text (take k xs) ++ drop (20 * k) old → out ≡ row_text xs ++ drop (20 * length xs) old
-row_done xs old out k e is = rw (take_all k xs (omega arith), ← e) at is
+pub all_writable : (xs : List ℤ) → Writable xs → writable xs ≡ true
+all_writable xs = (writable_decides xs).1
 
 -- why a row is not written
 module _ (xs : List ℤ) (room : ℕ) where
-  pub row_wide : (AllByRecursion (λ x. nat_abs x < 10 ^ 18) xs → ⊥) → row_refusal xs room ≡ Some 11
-  row_wide never =
-      let f : writable xs ≡ false = elim (cases_Bool (writable xs)) [ inl e ↦ absurd (never (writable_all xs e)) | inr e ↦ e ] in
-      rw f refl
+  pub row_short : Writable xs → room < 20 * length xs → row_refusal xs room ≡ Some 16
+  row_short all short = rw (all_writable xs all, lt-leb (20 * length xs) room short) refl
 
-  pub row_short : AllByRecursion (λ x. nat_abs x < 10 ^ 18) xs → (20 * length xs ≤ room → ⊥) → row_refusal xs room ≡ Some 16
-  row_short all never =
-      let t = all_writable xs all in
-      let l : leb (20 * length xs) room ≡ false = elim (cases_Bool (leb (20 * length xs) room)) [ inl e ↦ absurd (never (leb-true (20 * length xs) room e)) | inr e ↦ e ] in
-      rw (t, l) refl
-
-  pub row_fits : AllByRecursion (λ x. nat_abs x < 10 ^ 18) xs → 20 * length xs ≤ room → row_refusal xs room ≡ None
+  pub row_fits : Writable xs → 20 * length xs ≤ room → row_refusal xs room ≡ None
   row_fits all le = rw (all_writable xs all, le-leb (20 * length xs) room le) refl
 
-pub row_answered : (r : Result Unit Refusal) (P : Type 0) → MatchResult r (λ _. P) (λ _. ⊥) → Writes None r × P
-row_answered (Ok done) P h = (tt, h)
-row_answered (Err why) P h = absurd h
-
-pub row_bytes : (xs : List ℤ) (old : List ℕ) → AllByRecursion (λ x. nat_abs x < 10 ^ 18) xs → row_text xs ++ drop (20 * length xs) old ≡ bytes_after None (row_text xs) old
+pub row_bytes : (xs : List ℤ) (old : List ℕ) → Writable xs → row_text xs ++ drop (20 * length xs) old ≡ bytes_after None (row_text xs) old
 row_bytes xs old all = ap (λ (n : ℕ). row_text xs ++ drop n old) (sym (row_length xs all))

@@ -3,12 +3,13 @@ use Rattle.std.proofs.Common.{◌≡◌, ℕ, suc, ◌+◌, ◌-◌, ◌/◌, �
 use borrow.Rule.Slice.PartMut.{put_mid}
 use lib.Signed.{lt_z}
 use Rattle.std.proofs.lemmas.Fmt.{decimal_nonempty, length-decimal-le}
-use Rattle.std.proofs.lemmas.List.{append_assoc, append-nil, drop_all, drop_at, drop_more, get_or_append_left, length-append, length-drop, length-replicate, length-take-le, replicate_more, set_at, take_at}
+use Rattle.std.proofs.lemmas.List.{append_assoc, append-nil, drop_all, get_or_append_left, length-append, length-drop, length-replicate, length-take-le, replicate_more, set_at}
 use Rattle.std.proofs.lemmas.Bool.{false≢true, ltb-true}
 use Rattle.count_text.specs.Columns.{at_right, count_text_of, last_digits, count_refusal, bytes_after}
 use Rattle.count_text.proofs.Decimals.{first_is_digit}
 use Rattle.count_text.proofs.LastDigits.{length_last}
 use Rattle.count_text.proofs.Columns.{not_refused, length-at_right, same_blanks}
+use Rattle.figure_text.proofs.Parts.{put_to, set_next}
 use Rattle.figure_text.specs.Figures.{mark, size_text, whole_text, figure_text_of}
 
 mark_none : (x : ℤ) → lt_z x (pos 0) ≡ false → mark x ≡ []
@@ -42,21 +43,20 @@ module _
         let l = length-at_right 9 (decimal n) (omega (arith, digits_le)) in
         rw (e, l) at written
 
-    -- a column is left for the minus of a negative figure
-    pub first_is_blank : get_or new 0 0 ≡ 32
-    first_is_blank = let k : 9 - length (decimal n) ≡ suc (8 - length (decimal n)) = omega (arith, digits_le) in rw (count_written_first, k)
-
-    module _ (k : ℕ) (lt : k < length new) (front : take (k + 1) new ≡ replicate (k + 1) 32) (next : get_or new (k + 1) 0 ≡ 32 → ⊥) where
-      last_blank_is : k ≡ 9 - length (decimal n) - 1
-      last_blank_is =
+    -- the blanks before it
+    module _ (b : ℕ) (le : b ≤ length new) (front : take b new ≡ replicate b 32) (next : get_or new b 0 ≡ 32 → ⊥) where
+      blanks_are : b ≡ 9 - length (decimal n)
+      blanks_are =
           let d = get_or_append_left (decimal n) (drop 9 old) 0 0 (decimal_nonempty n (omega arith)) in
-          let b =
-          same_blanks new (k + 1) (omega arith) front next (9 - length (decimal n)) (decimal n ++ drop 9 old) (λ e. omega (arith, first_is_digit n (omega arith)))
-          (count_written_first ∙ append_assoc _ (decimal n) (drop 9 old)) in
-          omega arith
+          same_blanks new b le front next (9 - length (decimal n)) (decimal n ++ drop 9 old) (λ e. omega (arith, first_is_digit n (omega arith)))
+          (count_written_first ∙ append_assoc _ (decimal n) (drop 9 old))
 
-      pub negative_whole_written : (x : ℤ) → lt_z x (pos 0) ≡ true → n ≡ nat_abs x / 10 ^ 10 → set new k 45 ≡ whole_text x ++ drop 9 old
-      negative_whole_written x e is = rw (count_written_first, last_blank_is, mark_minus x e, ← is) (minus_over_blank 9 (decimal n) (drop 9 old) (omega (arith, digits_le)))
+      -- a column is left for the minus of a negative figure
+      pub some_blank : 0 < b
+      some_blank = omega (arith, blanks_are, digits_le)
+
+      pub negative_whole_written : (x : ℤ) → lt_z x (pos 0) ≡ true → n ≡ nat_abs x / 10 ^ 10 → set new (b - 1) 45 ≡ whole_text x ++ drop 9 old
+      negative_whole_written x e is = rw (count_written_first, blanks_are, mark_minus x e, ← is) (minus_over_blank 9 (decimal n) (drop 9 old) (omega (arith, digits_le)))
 
     pub positive_whole_written : (x : ℤ) → lt_z x (pos 0) ≡ false → n ≡ nat_abs x / 10 ^ 10 → new ≡ whole_text x ++ drop 9 old
     positive_whole_written x e is = rw (mark_none x e, ← is) count_written_first
@@ -93,9 +93,7 @@ module _ (x : ℤ) (small : nat_abs x < 10 ^ 18) where
   -- over the whole of the columns
   module _ (old new digits : List ℕ) (long : length old ≡ 20) (whole : new ≡ whole_text x ++ drop 9 old) where
     point_written : set new 9 46 ≡ (whole_text x ++ 46 ∷ []) ++ drop 10 old
-    point_written =
-        let d : drop 9 old ≡ get_or old 9 0 ∷ drop 10 old = drop_more old 9 0 (omega arith) in
-        rw (whole, d) (set_at (whole_text x) (get_or old 9 0) (drop 10 old) 46 9 length_whole ∙ sym (append_assoc (whole_text x) (46 ∷ []) (drop 10 old)))
+    point_written = set_next (whole_text x) old new 9 length_whole whole 46 (omega arith)
 
     length_pointed : length (whole_text x ++ 46 ∷ []) ≡ 10
     length_pointed = length-append (whole_text x) (46 ∷ []) ∙ ap (λ (k : ℕ). k + 1) length_whole
@@ -109,9 +107,8 @@ module _ (x : ℤ) (small : nat_abs x < 10 ^ 18) where
         (s : ℕ) → s ≡ nat_abs x → digits ≡ last_digits (length (take (length (set new 9 46) - 10) (drop 10 (set new 9 46)))) s →
         put_mid 10 (length (set new 9 46) - 10) (set new 9 46) digits ≡ figure_text_of x
     figure_written s is written =
-        let t = take_at (whole_text x ++ 46 ∷ []) (drop 10 old) 10 length_pointed in
-        let u = drop_at (whole_text x ++ 46 ∷ []) (drop 10 old) 10 length_pointed in
-        let k : length (take 10 (drop 10 old)) ≡ 10 = length-take-le 10 (drop 10 old) (omega (arith, length-drop 10 old)) in
-        let w : digits ≡ last_digits 10 (nat_abs x) = rw (columns_left, point_written, u, k, is) at written in
-        let z : drop 10 (drop 10 old) ≡ [] = drop_all 10 (drop 10 old) (omega (arith, length-drop 10 old)) in
-        rw (columns_left, point_written, t, u, w, figure_is_parts, z, append-nil) (simp append_assoc)
+        let k = length-take-le (length (set new 9 46) - 10) (drop 10 (set new 9 46)) (omega (arith, length-drop 10 (set new 9 46))) in
+        let w : digits ≡ last_digits 10 (nat_abs x) = rw (k, columns_left, is) at written in
+        let l = length_last 10 (nat_abs x) in
+        let l : length (last_digits 10 (nat_abs x)) ≡ length (set new 9 46) - 10 = omega (arith, length_last 10 (nat_abs x), columns_left) in
+        rw (w, put_to (whole_text x ++ 46 ∷ []) old (set new 9 46) 10 length_pointed point_written (length (set new 9 46)) (last_digits 10 (nat_abs x)) (omega (arith, columns_left)) l, figure_is_parts, drop_all (length (set new 9 46)) old (omega (arith, columns_left)), append-nil) (simp append_assoc)

@@ -1,7 +1,6 @@
 -- Figures one after another, twenty columns each.
 use Rattle.std.specs.Prelude.{◌≡◌, ℕ, ◌*◌, ◌^◌, ◌<◌, Bool, List, length, take, drop, ℤ, pos, Ok, Err, Option, Result, nat_lt, slice_index_or, unsigned_abs}
-use Rattle.std.specs.List.{flat_map}
-use Rattle.quantity.specs.Series.{every}
+use Rattle.std.specs.List.{All, flat_map, list_all}
 use Rattle.count_text.specs.Columns.{write_refusal}
 use Rattle.figure_text.specs.Figures.{figure_text_of, FigureIn}
 
@@ -9,9 +8,13 @@ use Rattle.figure_text.specs.Figures.{figure_text_of, FigureIn}
 abbrev pub row_text : List ℤ → List ℕ
 row_text xs = flat_map figure_text_of xs
 
+-- each of them can be written
+abbrev pub Writable : List ℤ → Type 0
+Writable xs = All (λ x. unsigned_abs x < 10 ^ 18) xs
+
 -- whether each of them can be written
 abbrev pub writable : List ℤ → Bool
-writable xs = every (λ x. nat_lt (unsigned_abs x) (10 ^ 18)) xs
+writable xs = list_all (λ x. nat_lt (unsigned_abs x) (10 ^ 18)) xs
 
 -- why a row is not written
 abbrev pub row_refusal : List ℤ → ℕ → Option ℕ

@@ -1,9 +1,8 @@
 //! Figures in a row: one after another, twenty columns each.
 
-ghost use Rattle.std.specs.Prelude.{◌≡◌, ◌*◌, ◌^◌, ◌<◌, ◌≤◌, ◌++◌, length, drop, Decides, MatchResult, unsigned_abs};
-ghost use Rattle.std.specs.List.{AllByRecursion};
+ghost use Rattle.std.specs.Prelude.{◌≡◌, ◌*◌, ◌≤◌, ◌++◌, length, drop, Decides};
 ghost use Rattle.count_text.specs.Columns.{Writes, bytes_after};
-ghost use Rattle.figure_text.specs.Rows.{row_text, row_refusal, RowRead};
+ghost use Rattle.figure_text.specs.Rows.{Writable, row_text, row_refusal, RowRead};
 
 use crate::form::COLUMNS;
 use crate::read::read_figure;
@@ -16,14 +15,9 @@ pub fn read_row(text: &[u8], places: &mut [i64]) -> Result<(), usize>
     ensures { RowRead text.now result places.old places.new }
 {
     let mut rest = text;
-    for k in 0..places.len() {
-        let Some((field, after)) = rest.split_at_checked(COLUMNS) else {
-            return Err(k);
-        };
-        match read_figure(field) {
-            Ok(figure) => places[k] = figure,
-            Err(_) => return Err(k),
-        }
+    for (k, place) in places.iter_mut().enumerate() {
+        let (field, after) = rest.split_at_checked(COLUMNS).ok_or(k)?;
+        *place = read_figure(field).map_err(|_| k)?;
         rest = after;
     }
     Ok(())
@@ -31,47 +25,38 @@ pub fn read_row(text: &[u8], places: &mut [i64]) -> Result<(), usize>
 
 /// Whether each figure can be written.
 pub fn are_writable(figures: &[i64]) -> bool
-    ensures { Decides result (AllByRecursion (λ x. unsigned_abs x < 10 ^ 18) figures.now) }
+    ensures { Decides result (Writable figures.now) }
 {
-    for figure in figures {
-        if !is_writable(*figure) {
-            return false;
-        }
-    }
-    true
-}
-
-/// Whether a buffer has the columns of each figure.
-fn has_columns(figures: &[i64], out: &[u8]) -> bool
-    ensures { Decides result (20 * length figures.now ≤ length out.now) }
-{
-    figures.len() <= out.len() / COLUMNS
+    figures.iter().all(|figure| is_writable(*figure))
 }
 
 /// Writes figures one after another, each over its columns.
-/// Refuses nothing, since they hold it.
-fn put_row(figures: &[i64], out: &mut [u8]) -> Result<(), Refusal>
-    requires { (AllByRecursion (λ x. unsigned_abs x < 10 ^ 18) figures.now) × (20 * length figures.now ≤ length out.old) }
-    ensures { MatchResult result (λ _. out.new ≡ row_text figures.now ++ drop (20 * length figures.now) out.old) (λ _. ⊥) }
+fn put_row(figures: &[i64], out: &mut [u8])
+    requires writable { Writable figures.now }
+    requires room { 20 * length figures.now ≤ length out.old }
+    ensures { out.new ≡ row_text figures.now ++ drop (20 * length figures.now) out.old }
 {
-    for k in 0..figures.len() {
+    // By index: what is written through the items of `chunks_exact_mut` is not known behind the loop.
+    for (k, figure) in figures.iter().enumerate() {
         let start = COLUMNS * k;
-        put_figure(figures[k], &mut out[start..start + COLUMNS])?;
+        put_figure(*figure, &mut out[start..start + COLUMNS]);
     }
-    Ok(())
 }
 
 /// Writes figures one after another over the first bytes of `out`, 20 to each.
-/// Refuses a figure with more than eight digits before the point (11), then a buffer of fewer bytes (16); a refusal leaves every byte as it was.
+/// Refuses a figure with more than eight digits before the point (11), then a buffer of fewer bytes (16); a refusal leaves
+/// every byte as it was.
 pub fn write_row(figures: &[i64], out: &mut [u8]) -> Result<(), Refusal>
     ensures refused_first { Writes (row_refusal figures.now (length out.old)) result }
-    ensures bytes { out.new ≡ bytes_after (row_refusal figures.now (length out.old)) (row_text figures.now) out.old }
+    ensures bytes { out.new
+        ≡ bytes_after (row_refusal figures.now (length out.old)) (row_text figures.now) out.old }
 {
     if !are_writable(figures) {
         return Err(Refusal::OutOfRange);
     }
-    if !has_columns(figures, out) {
+    if figures.len() > out.len() / COLUMNS {
         return Err(Refusal::BufferTooShort);
     }
-    put_row(figures, out)
+    put_row(figures, out);
+    Ok(())
 }

@@ -1,10 +1,9 @@
 -- A numbered row is a line of a letter, a count, figures one after another and LF.
-use Rattle.std.specs.Prelude.{◌≡◌, ℕ, zero, suc, ◌+◌, ◌-◌, ◌*◌, ◌/◌, ◌^◌, ◌<◌, Bool, ◌&&◌, List, [], ◌∷◌, ◌++◌, length, take, drop, ℤ, None, Option, ◌==◌, nat_lt, slice_index, unsigned_abs}
-use Rattle.std.specs.List.{AllByRecursion}
+use Rattle.std.specs.Prelude.{◌≡◌, ℕ, zero, suc, ◌+◌, ◌-◌, ◌*◌, ◌/◌, ◌^◌, ◌<◌, Bool, ◌&&◌, List, [], ◌∷◌, ◌++◌, length, take, drop, ℤ, None, Option, ◌==◌, nat_lt, slice_index}
 use Rattle.count_text.specs.Columns.{count_text_of, write_refusal}
 use Rattle.count_text.specs.Forms.{is_count}
 use Rattle.figure_text.specs.Forms.{is_figure}
-use Rattle.figure_text.specs.Rows.{row_text, writable}
+use Rattle.figure_text.specs.Rows.{Writable, row_text, writable}
 use Rattle.line_text.specs.Faults.{Fault, unless_at, first_of}
 
 -- a line of so many bytes, the last of them LF (10)
@@ -21,7 +20,7 @@ numbered_text letter w n xs = letter ∷ (count_text_of w n ++ (row_text xs ++ (
 
 -- a line that is one, of a count and figures that their columns can hold
 abbrev pub NumberedIn : ℕ → ℕ → ℕ → List ℤ → List ℕ → Type 0
-NumberedIn letter w n xs line = (n < 10 ^ w) × AllByRecursion (λ x. unsigned_abs x < 10 ^ 18) xs × (line ≡ numbered_text letter w n xs)
+NumberedIn letter w n xs line = (n < 10 ^ w) × Writable xs × (line ≡ numbered_text letter w n xs)
 
 -- the first of k figures that is not in its form, the first beginning at a column
 unfoldable pub row_fault : ℕ → ℕ → List ℕ → Option Fault

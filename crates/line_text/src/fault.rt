@@ -1,12 +1,15 @@
 //! Faults of a line.
 
-ghost use Rattle.std.specs.Prelude.{◌≡◌};
+ghost use Rattle.std.specs.Prelude.{◌≡◌, ◌++◌, Some, codes, decimal};
+ghost use Rattle.quantity.specs.Refusals.{number_of};
 ghost use Rattle.quantity.specs.declared.refusal.Refusal.TheVariants.{NotInForm, NotALine};
 
 use quantity::Refusal;
+use std::error::Error;
+use std::fmt;
 
 /// Why a line is not taken, and the column where, counted from 1.
-#[derive(Clone, Copy)]
+#[derive(Clone, Copy, PartialEq, Eq, Debug)]
 pub struct LineFault {
     pub refusal: Refusal,
     pub column: usize,
@@ -33,3 +36,16 @@ impl LineFault {
         }
     }
 }
+
+impl fmt::Display for LineFault {
+    ghost output = { λ fault. Some (codes "column " ++ (decimal fault.column
+        ++ (codes ": refused with " ++ decimal (number_of fault.refusal)))) };
+
+    fn fmt<W: fmt::Write>(&self, f: &mut fmt::Formatter<W>) -> fmt::Result {
+        let column = self.column;
+        let number = self.refusal.number();
+        write!(f, "column {column}: refused with {number}")
+    }
+}
+
+impl Error for LineFault {}

@@ -7,8 +7,5 @@ ghost use Rattle.line_text.specs.Letters.{letter_of};
 pub fn letter(line: &[u8]) -> Option<char>
     ensures { result ≡ letter_of line.now }
 {
-    match line {
-        [first, ..] => Some(*first as char),
-        [] => None,
-    }
+    line.first().map(|first| char::from(*first))
 }

@@ -1,7 +1,6 @@
 //! Numbered rows, written and read.
 
-ghost use Rattle.std.specs.Prelude.{◌≡◌, ◌+◌, ◌*◌, ◌^◌, ◌<◌, ◌≤◌, ◌++◌, length, drop, IfOk, IfErr, Decides, MatchResult, slice_index, unsigned_abs};
-ghost use Rattle.std.specs.List.{AllByRecursion};
+ghost use Rattle.std.specs.Prelude.{◌≡◌, ◌+◌, ◌*◌, ◌≤◌, length, drop, IfOk, IfErr, Decides, slice_index};
 ghost use Rattle.count_text.specs.Columns.{Writes, bytes_after};
 ghost use Rattle.figure_text.specs.Rows.{Filled};
 ghost use Rattle.line_text.specs.Faults.{Judged};
@@ -17,10 +16,7 @@ use quantity::Refusal;
 fn is_row(line: &[u8], width: Width, figures: usize) -> bool
     ensures { result ≡ is_whole (2 + width.columns + 20 * figures) line.now }
 {
-    match row_length(width, figures) {
-        Some(length) => is_whole(line, length),
-        None => false,
-    }
+    row_length(width, figures).is_some_and(|length| is_whole(line, length))
 }
 
 /// Reads what stands behind the letter of a numbered row: answers its number and fills the places with its figures.
@@ -29,16 +25,15 @@ fn is_row(line: &[u8], width: Width, figures: usize) -> bool
 pub fn read_numbered_row(line: &[u8], width: Width, figures: &mut [i64]) -> Result<u64, LineFault>
     ensures first_fault { Judged (numbered_fault width.columns (length figures.old) line.now) result }
     ensures read_is_written { IfOk result (λ n. NumberedIn (slice_index line.now 0) width.columns n figures.new line.now) }
-    ensures places { IfErr result (λ fault. Filled (figures_before width.columns fault.column) (drop (1 + width.columns) line.now) figures.old figures.new) }
+    ensures places { IfErr result (λ fault. Filled (figures_before width.columns fault.column)
+        (drop (1 + width.columns) line.now) figures.old figures.new) }
 {
     if !is_row(line, width, figures.len()) {
         return Err(LineFault::not_a_line());
     }
     let start = 1 + width.columns();
-    let number = match read_count(&line[1..start], width) {
-        Ok(number) => number,
-        Err(_) => return Err(LineFault::not_in_form(2)),
-    };
+    let number = read_count(&line[1..start], width).map_err(|_| LineFault::not_in_form(2))?;
+    // Not `map_err`: what holds of the index is proved where it has a name.
     match read_row(&line[start..], figures) {
         Ok(()) => Ok(number),
         Err(k) => Err(LineFault::not_in_form(start + 1 + COLUMNS * k)),
@@ -49,33 +44,10 @@ pub fn read_numbered_row(line: &[u8], width: Width, figures: &mut [i64]) -> Resu
 fn has_room(width: Width, figures: usize, out: &[u8]) -> bool
     ensures { Decides result (2 + width.columns + 20 * figures ≤ length out.now) }
 {
-    match row_length(width, figures) {
-        Some(length) => length <= out.len(),
-        None => false,
-    }
+    row_length(width, figures).is_some_and(|length| length <= out.len())
 }
 
-/// Writes a numbered row over the first bytes of `out`.
-/// Refuses nothing, since there is room and the columns hold the number and the figures.
-fn put_numbered_row(
-    letter: u8,
-    number: u64,
-    width: Width,
-    figures: &[i64],
-    out: &mut [u8],
-) -> Result<(), Refusal>
-    requires { (number < 10 ^ width.columns) × ((AllByRecursion (λ x. unsigned_abs x < 10 ^ 18) figures.now) × (2 + width.columns + 20 * length figures.now ≤ length out.old)) }
-    ensures { MatchResult result (λ _. out.new ≡ numbered_text letter width.columns number figures.now ++ drop (2 + width.columns + 20 * length figures.now) out.old) (λ _. ⊥) }
-{
-    let start = 1 + width.columns();
-    let end = start + COLUMNS * figures.len();
-    out[0] = letter;
-    write_count(number, width, &mut out[1..start])?;
-    write_row(figures, &mut out[start..end])?;
-    out[end] = b'\n';
-    Ok(())
-}
-
+// No struct of the row's parts: each caller names them once, here, and a clause would read them through it.
 /// Writes a numbered row over the first bytes of `out`: the letter, the number, the figures and LF.
 /// Refuses a number or a figure that is too wide for its columns (11), then a buffer that is shorter than the row (16); a
 /// refusal leaves every byte as it was.
@@ -87,16 +59,21 @@ pub fn write_numbered_row(
     out: &mut [u8],
 ) -> Result<(), Refusal>
     ensures refused_first { Writes (numbered_refusal width.columns number figures.now (length out.old)) result }
-    ensures bytes { out.new ≡ bytes_after (numbered_refusal width.columns number figures.now (length out.old)) (numbered_text letter width.columns number figures.now) out.old }
+    ensures bytes { out.new
+        ≡ bytes_after (numbered_refusal width.columns number figures.now (length out.old))
+        (numbered_text letter width.columns number figures.now) out.old }
 {
-    if !width.holds(number) {
-        return Err(Refusal::OutOfRange);
-    }
-    if !are_writable(figures) {
+    if !width.holds(number) || !are_writable(figures) {
         return Err(Refusal::OutOfRange);
     }
     if !has_room(width, figures.len(), out) {
         return Err(Refusal::BufferTooShort);
     }
-    put_numbered_row(letter, number, width, figures, out)
+    let start = 1 + width.columns();
+    let end = start + COLUMNS * figures.len();
+    out[0] = letter;
+    write_count(number, width, &mut out[1..start]).unwrap();
+    write_row(figures, &mut out[start..end]).unwrap();
+    out[end] = b'\n';
+    Ok(())
 }

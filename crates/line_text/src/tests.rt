@@ -8,10 +8,8 @@ const ROW: [u8; 45] = *b"M  7       12.5000000000       -0.0000000001\n";
 
 /// The number and the column of a line's fault.
 fn fault(line: &[u8]) -> Option<(u8, usize)> {
-    match read_numbered_row(line, Width::THREE, &mut [0, 0]) {
-        Ok(_) => None,
-        Err(fault) => Some((fault.refusal.number(), fault.column)),
-    }
+    let fault = read_numbered_row(line, Width::THREE, &mut [0, 0]).err()?;
+    Some((fault.refusal.number(), fault.column))
 }
 
 /// The fault of the row with one byte changed.
@@ -41,10 +39,10 @@ fn a_row_is_written_and_read(rt: HostRuntime) {
     assert!(rt; write_numbered_row(b'M', 7, Width::THREE, &figures, &mut line).is_ok());
     assert!(rt; &line == b"M  7       12.5000000000       -0.0000000001\n..");
     let mut places = [0, 0];
-    match read_numbered_row(&line[0..45], Width::THREE, &mut places) {
-        Ok(number) => assert_eq!(rt; number, 7),
-        Err(_) => assert!(rt; false),
-    }
+    assert_eq!(rt;
+        read_numbered_row(&line[0..45], Width::THREE, &mut places),
+        Ok(7)
+    );
     assert!(rt; places == figures);
 }
 
@@ -76,4 +74,10 @@ fn the_first_fault_is_told(rt: HostRuntime) {
         fault(b"M  x       12.5 00000000       -0.0000000001\n"),
         Some((17, 2))
     );
+}
+
+#[test]
+fn a_fault_is_told_with_its_column(rt: HostRuntime) {
+    let text = format!(in rt.alloc(); "{}", LineFault::not_in_form(25));
+    assert!(rt; text.is_ok_and(|text| text.as_str() == "column 25: refused with 17"));
 }

@@ -10,15 +10,13 @@ use figure_text::COLUMNS;
 pub fn is_whole(line: &[u8], length: usize) -> bool
     ensures { result ≡ is_whole length line.now }
 {
-    match line.last() {
-        Some(last) => line.len() == length && *last as char == '\n',
-        None => false,
-    }
+    line.len() == length && line.last() == Some(&b'\n')
 }
 
 /// The bytes of a numbered row: its letter, a count, figures and LF; none where a `usize` cannot tell.
 pub(crate) fn row_length(width: Width, figures: usize) -> Option<usize>
-    ensures { MatchOption result (2 ^ 64 ≤ 2 + width.columns + 20 * figures) (λ length. length ≡ 2 + width.columns + 20 * figures) }
+    ensures { MatchOption result (2 ^ 64 ≤ 2 + width.columns + 20 * figures)
+        (λ length. length ≡ 2 + width.columns + 20 * figures) }
 {
     COLUMNS
         .checked_mul(figures)?

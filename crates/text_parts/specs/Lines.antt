@@ -1,12 +1,8 @@
 -- The lines of a text, and what it is to hand out the next one.
-use Rattle.std.specs.Prelude.{◌≡◌, ℕ, ◌+◌, cond, List, [], ◌∷◌, length, drop, ◌==◌}
+use Rattle.std.specs.Prelude.{◌≡◌, ℕ, ◌+◌, cond, List, [], ◌∷◌, ◌++◌, ◌==◌}
+use Rattle.std.specs.Io.BufRead.{take_through}
 use Rattle.text_parts.specs.declared.line.Line.{Line}
 use Rattle.text_parts.specs.declared.lines.Lines.{Lines}
-
--- the first line of a text, with its LF if it has one
-abbrev pub line_of : List ℕ → List ℕ
-line_of [] = []
-line_of (b ∷ bs) = b ∷ cond (b == 10) [] (line_of bs)
 
 -- a byte more before the first line
 abbrev pub begun : ℕ → List (List ℕ) → List (List ℕ)
@@ -20,7 +16,7 @@ lines_of (b ∷ bs) = cond (b == 10) ((b ∷ []) ∷ lines_of bs) (begun b (line
 
 -- what was not handed out yet
 abbrev pub rest_of : Lines → List ℕ
-rest_of lines = drop lines.at lines.text.now
+rest_of lines = lines.rest.now
 
 -- nothing is left, and nothing changes
 abbrev pub Ended : Lines → Lines → Type 0
@@ -28,9 +24,8 @@ Ended before after = (rest_of before ≡ []) × (after ≡ before)
 
 -- the first line of what was left is handed out with its number, and the lines after it are left
 pub record Advanced (before after : Lines) (line : Line) : Type 0 where
-  pub same : after.text.now ≡ before.text.now
-  pub is : line.bytes.now ≡ line_of (rest_of before)
+  pub is : line.bytes.now ≡ take_through 10 (rest_of before)
+  pub rest : rest_of before ≡ line.bytes.now ++ rest_of after
   pub first : lines_of (rest_of before) ≡ line.bytes.now ∷ lines_of (rest_of after)
   pub number : line.number ≡ before.taken + 1
   pub taken : after.taken ≡ before.taken + 1
-  pub at : after.at ≡ before.at + length line.bytes.now

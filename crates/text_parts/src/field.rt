@@ -5,24 +5,12 @@ ghost use Rattle.std.specs.Prelude.{◌≡◌};
 /// A field: its bytes as a part of the text, the line that it stands in and its first column, both from 1.
 #[derive(Clone, Copy)]
 pub struct Field<'a> {
-    bytes: &'a [u8],
-    line: usize,
-    column: usize,
+    pub(crate) bytes: &'a [u8],
+    pub(crate) line: usize,
+    pub(crate) column: usize,
 }
 
 impl<'a> Field<'a> {
-    pub(crate) fn new(bytes: &'a [u8], line: usize, column: usize) -> Field<'a>
-        ensures bytes { result.bytes.now ≡ bytes.now }
-        ensures line { result.line ≡ line }
-        ensures column { result.column ≡ column }
-    {
-        Field {
-            bytes,
-            line,
-            column,
-        }
-    }
-
     /// Its bytes.
     pub fn bytes(&self) -> &'a [u8]
         ensures { result.now ≡ self.now.bytes.now }

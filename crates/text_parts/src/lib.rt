@@ -7,7 +7,7 @@
 //! let field = line.field(3, 2)?;   // b"12", of line 1 at column 3
 //! ```
 //!
-//! Start from [`Lines`], which hands out each [`Line`], and [`Line::field`], which hands out a [`Field`].
+//! Start from [`Lines`], an iterator over each [`Line`], and [`Line::field`], which hands out a [`Field`].
 
 #![tactic(auto)]
 

@@ -1,4 +1,4 @@
-use Rattle.std.proofs.Common.{nat_abs, ap, ◌∙◌, arith, w64}
+use Rattle.std.proofs.Common.{ap, nat_abs, ◌∙◌, w64}
 use Rattle.std.proofs.lemmas.Int.{to_z-of_z}
 use Rattle.figure_text.proofs.Wholes.{figure_written}
 use Rattle.figure_text.proofs.write.put_figure.Goals as goal
@@ -7,5 +7,5 @@ pub returns : goal.returns
 returns c =
     let x = c.args.units in
     let same = to_z-of_z w64 x c.ranges.units in
-    let whole = rw same at c.in_ok-put_whole.ensures in
-    figure_written x (omega arith) c.args.columns.now _ _ (omega arith) whole _ (c.unsigned_abs.ensures.value ∙ ap nat_abs same) c.write_fixed.ensures
+    let whole = rw same at c.put_whole.ensures in
+    figure_written x c.requires.writable c.args.columns.now _ _ c.requires.room whole _ (c.unsigned_abs.ensures.value ∙ ap nat_abs same) c.write_fixed.ensures
