@@ -1,18 +1,20 @@
--- The line of a request: Q, the minute in two columns, sixty figures and LF.
-use Rattle.std.specs.Prelude.{◌≡◌, ℕ, zero, suc, ◌+◌, ◌*◌, ◌^◌, ◌<◌, List, [], ◌∷◌, ◌++◌, length, take, drop, ℤ, slice_index, unsigned_abs}
-use Rattle.std.specs.List.{AllByRecursion}
-use Rattle.count_text.specs.Columns.{count_text_of, CountIn}
+-- The line of a request is a numbered row: Q, the minute in two columns, sixty figures and LF.
+use Rattle.std.specs.Prelude.{◌≡◌, ℕ, zero, suc, ◌+◌, ◌*◌, ◌<◌, List, length, take, drop, ℤ, Option, slice_index}
+use Rattle.count_text.specs.Columns.{CountIn}
 use Rattle.figure_text.specs.Figures.{FigureIn}
-use Rattle.figure_text.specs.Rows.{row_text, figure_field}
+use Rattle.figure_text.specs.Rows.{figure_field}
+use Rattle.line_text.specs.Faults.{Fault, unless_at, first_of}
+use Rattle.line_text.specs.Letters.{is_letter}
+use Rattle.line_text.specs.NumberedRows.{NumberedIn, numbered_fault}
 use Rattle.call_lines.specs.declared.request_line.RequestLine.{RequestLine}
-
--- a request as its line writes it
-abbrev pub request_text : RequestLine → List ℕ
-request_text q = 81 ∷ (count_text_of 2 q.minute ++ (row_text q.samples ++ (10 ∷ [])))
 
 -- the line of a request whose figures their columns can hold
 abbrev pub RequestIn : RequestLine → List ℕ → Type 0
-RequestIn q line = (q.minute < 10 ^ 2) × (length q.samples ≡ 60) × AllByRecursion (λ x. unsigned_abs x < 10 ^ 18) q.samples × (line ≡ request_text q)
+RequestIn q line = (length q.samples ≡ 60) × NumberedIn 81 2 q.minute q.samples line
+
+-- what is wrong with a line, in the order of checks: its letter, its length, the minute, each figure from the left
+abbrev pub request_fault : List ℕ → Option Fault
+request_fault line = first_of (unless_at (is_letter 81 line) 18 1) (numbered_fault 2 60 line)
 
 -- what is checked of a line, in this order: its letter, its length, the minute, each figure from the left
 abbrev pub Passes : ℕ → List ℕ → Type 0

@@ -1,7 +1,6 @@
 //! Lines with a fault of each kind, at both ends of each field.
 
 use super::*;
-use std::test::Fail;
 
 const LENGTH: usize = 1204;
 
@@ -10,12 +9,8 @@ fn request() -> [u8; LENGTH + 1] {
     let mut line = [b' '; LENGTH + 1];
     line[0] = b'Q';
     line[2] = b'7';
-    for i in 3..LENGTH - 1 {
-        line[i] = match (i - 3) % 20 {
-            0..=7 => b' ',
-            9 => b'.',
-            _ => b'0',
-        };
+    for figure in line[3..LENGTH - 1].chunks_exact_mut(20) {
+        figure.copy_from_slice(b"        0.0000000000");
     }
     line[LENGTH - 1] = b'\n';
     line
@@ -23,42 +18,34 @@ fn request() -> [u8; LENGTH + 1] {
 
 /// The number and the column of a line's fault.
 fn fault(line: &[u8]) -> Option<(u8, usize)> {
-    match read_request_line(line) {
-        Ok(_) => None,
-        Err(fault) => Some((fault.refusal.number(), fault.column)),
-    }
+    let fault = read_request_line(line).err()?;
+    Some((fault.refusal.number(), fault.column))
 }
 
 /// The fault of the request with one byte changed.
 fn changed(at: usize, byte: u8) -> Option<(u8, usize)> {
     let mut line = request();
-    if at < LENGTH {
+    if at < line.len() {
         line[at] = byte;
     }
     fault(&line[0..LENGTH])
 }
 
 #[test]
-fn a_request_is_read(rt: HostRuntime) -> Result<(), Fail> {
+fn a_request_is_read(rt: HostRuntime) {
     let mut line = request();
     line[1] = b'1';
     line[22] = b'5';
     line[1190] = b'-';
     line[1202] = b'2';
-    match read_request_line(&line[0..LENGTH]) {
-        Ok(request) => {
-            assert_eq!(rt; request.minute(), 17);
-            assert_eq!(rt; request.upward().first().copied(), Some(5));
-            assert_eq!(rt; request.upward().len(), 30);
-            assert_eq!(rt; request.downward().len(), 30);
-            assert_eq!(rt; request.downward().last().copied(), Some(-2));
-            Ok(())
-        }
-        Err(_) => {
-            assert!(rt; false);
-            Ok(())
-        },
-    }
+    let Ok(request) = read_request_line(&line[0..LENGTH]) else {
+        panic!(rt);
+    };
+    assert_eq!(rt; request.minute(), 17);
+    assert_eq!(rt; request.upward().first().copied(), Some(5));
+    assert_eq!(rt; request.upward().len(), 30);
+    assert_eq!(rt; request.downward().len(), 30);
+    assert_eq!(rt; request.downward().last().copied(), Some(-2));
 }
 
 #[test]

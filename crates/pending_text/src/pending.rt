@@ -1,6 +1,10 @@
 //! Pending text.
 
-ghost use Rattle.std.specs.Prelude.{◌≡◌, ◌≤◌, replicate};
+ghost use Rattle.std.specs.Prelude.{◌≡◌, ◌≤◌, [], ⊤};
+ghost use Rattle.arrayvec.specs.ArrayVec.{array_vec_len};
+
+use arrayvec::ArrayVec;
+use std::alloc::AllocError;
 
 /// A block of a statement: text is handed out by so many bytes, but for the day's last.
 pub const BLOCK: usize = 512;
@@ -9,29 +13,40 @@ pub const BLOCK: usize = 512;
 pub const CAPACITY: usize = 676;
 
 /// Text that was written and not yet handed out, from the first byte.
-#[derive(Clone, Copy)]
+#[derive(Drop)]
 pub struct PendingText {
-    pub(crate) bytes: [u8; CAPACITY],
-    pub(crate) length: usize,
-    ghost within: { length ≤ 676 },
+    pub(crate) text: ArrayVec<u8, CAPACITY>,
+    ghost within: { array_vec_len text ≤ 676 },
+}
+
+// By hand, since no derive copies a ghost field.
+impl Clone for PendingText {
+    ghost is_clone = { λ text copy. copy ≡ text };
+
+    ghost is_infallible = { λ _. ⊤ };
+
+    fn clone(&self) -> Result<PendingText, AllocError> {
+        Ok(PendingText {
+            text: self.text.clone()?,
+        })
+    }
 }
 
 impl PendingText {
     /// Nothing is pending.
     pub fn new() -> PendingText
-        ensures bytes { result.bytes ≡ replicate 676 0 }
-        ensures length { result.length ≡ 0 }
+        ensures bytes { result.text.items ≡ [] }
+        ensures length { array_vec_len result.text ≡ 0 }
     {
         PendingText {
-            bytes: [0; CAPACITY],
-            length: 0,
+            text: ArrayVec::new(),
         }
     }
 
     /// How many bytes are pending.
     pub fn length(&self) -> usize
-        ensures { result ≡ self.now.length }
+        ensures { result ≡ array_vec_len self.now.text }
     {
-        self.length
+        self.text.len()
     }
 }

@@ -1,12 +1,17 @@
 //! What the program reads.
 
+ghost use Rattle.std.specs.Prelude.{◌≤◌};
+
 use crate::judge::{Given, Terms};
 use activation::ActivationRequest;
-use anyhow::anyhow;
+use anyhow::ensure;
 use bands::{Allowance, BidSum, Floor};
 use call_lines::{LineFault, read_request_line};
 use figure_text::{COLUMNS, read_row};
+use line_text::{is_whole, letter};
 use quantity::{Power, Refusal};
+use std::error::Error;
+use std::fmt;
 use std::io::{self, BufRead, BufReader, Stdin};
 
 /// The figures of the terms: procured reserve, the sums of upward and of downward bids, six requests.
@@ -14,6 +19,28 @@ const TERMS: usize = 9;
 
 /// The figures of what the pool gave: offered reserve and realised power.
 const GIVEN: usize = 2;
+
+/// A line that is not taken, and why: a fault of the line, or at column 0 that a call refused what it says.
+#[derive(Clone, Copy, Debug)]
+pub(crate) struct BadLine {
+    line: u32,
+    column: usize,
+    refusal: Refusal,
+}
+
+impl fmt::Display for BadLine {
+    fn fmt<W: fmt::Write>(&self, f: &mut fmt::Formatter<W>) -> fmt::Result {
+        let BadLine {
+            line,
+            column,
+            refusal,
+        } = self;
+        let number = refusal.number();
+        write!(f, "line {line}, column {column}: refused with {number}")
+    }
+}
+
+impl Error for BadLine {}
 
 /// Standard input, line by line.
 #[derive(Drop)]
@@ -23,49 +50,27 @@ pub(crate) struct Input {
     count: u32,
 }
 
-/// A line with another letter or another length.
-const NO_LINE: LineFault = LineFault {
-    refusal: Refusal::NotALine,
-    column: 1,
-};
-
-/// Whether a line has a letter, the length of so many figures and LF.
-fn is_line(line: &[u8], letter: char, figures: usize) -> bool {
-    let n = line.len();
-    n > 1
-        && line[0] as char == letter
-        && line[n - 1] as char == '\n'
-        && (n - 2) % COLUMNS == 0
-        && (n - 2) / COLUMNS == figures
-}
-
 /// Reads the figures of a line that has a letter, just so many figures and LF.
-fn read_figures(line: &[u8], letter: char, figures: &mut [i64]) -> Result<(), LineFault> {
-    if line.is_empty() || !is_line(line, letter, figures.len()) {
-        return Err(NO_LINE);
+fn read_figures(line: &[u8], kind: char, figures: &mut [i64]) -> Result<(), LineFault> {
+    let length = COLUMNS.saturating_mul(figures.len()).saturating_add(2);
+    if letter(line) != Some(kind) || !is_whole(line, length) {
+        return Err(LineFault::not_a_line());
     }
-    match read_row(&line[1..], figures) {
-        Ok(()) => Ok(()),
-        Err(k) => Err(LineFault {
-            refusal: Refusal::NotInForm,
-            column: k.saturating_mul(COLUMNS).saturating_add(2),
-        }),
-    }
+    read_row(&line[1..], figures).map_err(|k| LineFault::not_in_form(
+        COLUMNS.saturating_mul(k).saturating_add(2),
+    ))
 }
 
 /// The terms that nine figures give, or none where one is out of its range.
-fn terms_of(figures: &[i64; TERMS]) -> Option<Terms> {
-    let upward = BidSum::new(Power::from_units(figures[1]))?;
-    let downward = BidSum::new(Power::from_units(figures[2]))?;
-    let first = ActivationRequest::new(Power::from_units(figures[3]))?;
-    let mut before = [first; 6];
-    for i in 1..6usize {
-        before[i] = ActivationRequest::new(Power::from_units(figures[3 + i]))?;
-    }
+fn terms_of(figures: [Power; TERMS]) -> Option<Terms> {
+    // Six names for the requests: that `rest @ ..` holds them is not proved.
+    let [procured, upward, downward, a, b, c, d, e, f] = figures;
     Some(Terms {
-        floor: Floor::new(Power::from_units(figures[0]))?,
-        allowance: Allowance::of_bids(upward, downward),
-        before,
+        floor: Floor::new(procured)?,
+        allowance: Allowance::of_bids(BidSum::new(upward)?, BidSum::new(downward)?),
+        before: [a, b, c, d, e, f]
+            .try_map(|power| ActivationRequest::new(power).ok_or(()))
+            .ok()?,
     })
 }
 
@@ -80,7 +85,7 @@ impl Input {
     }
 
     /// Goes on to the next line.
-    fn advance(&mut self) -> anyhow::Result<()> {
+    fn advance(&mut self) -> io::Result<()> {
         self.line.clear();
         self.count = self.count.saturating_add(1);
         self.from.read_until(b'\n', &mut self.line)?;
@@ -88,58 +93,52 @@ impl Input {
     }
 
     /// What is said of a line that is not taken.
-    fn fault(&self, fault: LineFault) -> anyhow::Error {
-        let line = self.count;
-        let column = fault.column;
-        let number = fault.refusal.number();
-        anyhow!("line {line}, column {column}: refused with {number}")
+    fn fault(&self, fault: LineFault) -> BadLine {
+        BadLine {
+            line: self.count,
+            column: fault.column,
+            refusal: fault.refusal,
+        }
     }
 
     /// What is said of a line whose figures a call refused.
-    pub(crate) fn refused(&self, refusal: Refusal) -> anyhow::Error {
-        self.fault(LineFault { refusal, column: 0 })
+    pub(crate) fn refused(&self, refusal: Refusal) -> BadLine {
+        BadLine {
+            line: self.count,
+            column: 0,
+            refusal,
+        }
+    }
+
+    /// Reads a line of a letter and figures.
+    fn figures<const N: usize>(&mut self, kind: char) -> anyhow::Result<[Power; N]>
+        requires { N ≤ 9 }
+    {
+        self.advance()?;
+        let mut figures = [0; N];
+        read_figures(self.line.as_slice(), kind, &mut figures).map_err(|fault| self.fault(fault))?;
+        Ok(figures.map(Power::from_units))
     }
 
     /// Reads the line of terms.
     pub(crate) fn terms(&mut self) -> anyhow::Result<Terms> {
-        self.advance()?;
-        let mut figures = [0; TERMS];
-        if let Err(fault) = read_figures(self.line.as_slice(), 'B', &mut figures) {
-            return Err(self.fault(fault));
-        }
-        match terms_of(&figures) {
-            Some(terms) => Ok(terms),
-            None => Err(self.refused(Refusal::OutOfRange)),
-        }
+        let figures = self.figures::<TERMS>('B')?;
+        Ok(terms_of(figures).ok_or(self.refused(Refusal::OutOfRange))?)
     }
 
     /// Reads the request of a minute.
     pub(crate) fn request(&mut self, minute: u8) -> anyhow::Result<ActivationRequest> {
         self.advance()?;
-        let samples = match read_request_line(self.line.as_slice()) {
-            Ok(samples) => samples,
-            Err(fault) => return Err(self.fault(fault)),
-        };
-        if samples.minute() != minute {
-            return Err(anyhow!("the minutes are not in order"));
-        }
-        match ActivationRequest::of_samples(samples.upward(), samples.downward()) {
-            Ok(request) => Ok(request),
-            Err(why) => Err(self.refused(why)),
-        }
+        let line = read_request_line(self.line.as_slice()).map_err(|fault| self.fault(fault))?;
+        ensure!(line.minute() == minute, "the minutes are not in order");
+        Ok(ActivationRequest::of_samples(line.upward(), line.downward()).map_err(|why| self.refused(
+            why,
+        ))?)
     }
 
     /// Reads what the pool gave in a minute.
     pub(crate) fn given(&mut self) -> anyhow::Result<Given> {
-        self.advance()?;
-        let mut figures = [0; GIVEN];
-        if let Err(fault) = read_figures(self.line.as_slice(), 'R', &mut figures) {
-            return Err(self.fault(fault));
-        }
-        let [offered, realised] = figures;
-        Ok(Given {
-            offered: Power::from_units(offered),
-            realised: Power::from_units(realised),
-        })
+        let [offered, realised] = self.figures::<GIVEN>('R')?;
+        Ok(Given { offered, realised })
     }
 }

@@ -2,7 +2,7 @@
 
 ghost use Rattle.std.specs.Prelude.{◌≡◌, [], ◌∷◌, ◌++◌, drop as past};
 
-use crate::replay::{Replay, total};
+use crate::replay::Replay;
 use activation::{ActivationRequest, Direction};
 use bands::{Allowance, Floor, ToleranceBand, WINDOW, distance};
 use quantity::{Power, Refusal};
@@ -32,7 +32,7 @@ pub(crate) struct Judged {
 }
 
 /// The window of the newest minute, and the minutes that each account judges.
-#[derive(Clone, Copy)]
+#[derive(Drop)]
 pub(crate) struct Judge {
     terms: Terms,
     window: [ActivationRequest; WINDOW],
@@ -54,22 +54,20 @@ pub(crate) struct Totals {
 
 /// The window one minute on: the oldest request leaves it.
 fn moved_on(
-    window: &[ActivationRequest; WINDOW],
+    mut window: [ActivationRequest; WINDOW],
     newest: ActivationRequest,
 ) -> [ActivationRequest; WINDOW]
-    ensures { result ≡ past 1 window.now ++ newest ∷ [] }
+    ensures { result ≡ past 1 window ++ newest ∷ [] }
 {
-    [
-        window[1], window[2], window[3], window[4], window[5], window[6], newest,
-    ]
+    window.rotate_left(1);
+    window[WINDOW - 1] = newest;
+    window
 }
 
 impl Judge {
     pub(crate) fn new(terms: Terms) -> Judge {
-        let before = &terms.before;
-        let window = [
-            before[0], before[0], before[1], before[2], before[3], before[4], before[5],
-        ];
+        let mut window = [terms.before[0]; WINDOW];
+        window[1..].copy_from_slice(&terms.before);
         let band = ToleranceBand::over(&window, terms.allowance);
         Judge {
             terms,
@@ -86,7 +84,7 @@ impl Judge {
         request: ActivationRequest,
         given: Given,
     ) -> Result<Judged, Refusal> {
-        let window = moved_on(&self.window, request);
+        let window = moved_on(self.window, request);
         let band = ToleranceBand::over(&window, self.terms.allowance);
         distance(&self.terms.floor, given.offered)?;
         let distance = distance(&band, given.realised)?;
@@ -106,16 +104,12 @@ impl Judge {
     }
 
     /// The totals of the minutes so far, each through an account of its own.
-    pub(crate) fn totals(&self) -> Totals {
-        let floor = self.terms.floor;
+    pub(crate) fn totals(&mut self) -> Totals {
         let band = ToleranceBand::over(&self.window, self.terms.allowance);
-        let mut offered = self.offered;
-        let mut upward = self.upward;
-        let mut downward = self.downward;
         Totals {
-            missing: total(&mut offered, floor),
-            upward: total(&mut upward, band),
-            downward: total(&mut downward, band),
+            missing: self.offered.total(self.terms.floor),
+            upward: self.upward.total(band),
+            downward: self.downward.total(band),
         }
     }
 }

@@ -13,29 +13,24 @@ mod replay;
 
 use input::Input;
 use judge::Judge;
-use output::{write_minute, write_total};
 
 /// The minutes of a quarter hour.
-const MINUTES: u8 = 15;
+pub(crate) const MINUTES: u8 = 15;
 
 /// Reads, judges and writes the quarter hour.
 fn run(rt: &HostRuntime) -> anyhow::Result<()> {
     let mut input = Input::new(rt)?;
-    let mut out = rt.stdout();
     let mut judge = Judge::new(input.terms()?);
     for minute in 0..MINUTES {
         let request = input.request(minute)?;
         let given = input.given()?;
-        let judged = match judge.minute(request, given) {
-            Ok(judged) => judged,
-            Err(why) => return Err(input.refused(why)),
-        };
-        write_minute(&mut out, minute, &judged)?;
+        let judged = judge
+            .minute(request, given)
+            .map_err(|why| input.refused(why))?;
+        println!(rt; "{minute:2} {judged}")?;
     }
     let totals = judge.totals();
-    write_total(&mut out, b"M ", totals.missing)?;
-    write_total(&mut out, b"D+", totals.upward)?;
-    write_total(&mut out, b"D-", totals.downward)?;
+    println!(rt; "{totals}")?;
     Ok(())
 }
 

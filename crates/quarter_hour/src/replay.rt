@@ -4,20 +4,45 @@ ghost use Rattle.std.specs.Prelude.{◌≡◌, []};
 ghost use Rattle.account.specs.Histories.{Followed};
 ghost use Rattle.quarter_hour.specs.Replays.{Heard, Chose, minutes_after};
 
+use crate::MINUTES;
 use account::{AccountClient, Answer, Call, follow};
+use arrayvec::ArrayVec;
 use bands::BandRule;
 use quantity::Power;
+use std::default::MadeWith;
 
-/// The minutes of a quarter hour.
-pub(crate) const MINUTES: usize = 15;
+/// Room for each minute of a quarter hour, as a constant, in which no `From` is called.
+const ROOM: usize = MINUTES as usize;
 
-/// Figures with the rule of each, and the next call to make: a rule, then its figure.
+/// A minute that an account judges: a figure, and the rule that it meets.
 #[derive(Clone, Copy)]
+struct Minute<R> {
+    rule: R,
+    figure: Power,
+}
+
+/// An unused place of the list holds this.
+impl<R> MadeWith<R> for Minute<R> {
+    fn made_with(rule: R) -> Minute<R> {
+        Minute {
+            rule,
+            figure: Power::from_units(0),
+        }
+    }
+}
+
+/// The next call to make, of the minute at a place.
+#[derive(Clone, Copy)]
+enum Next {
+    Rule(usize),
+    Figure(usize),
+}
+
+/// Minutes, and how far an account was told of them. The list keeps a rule for its unused places, which judges none.
+#[derive(Drop)]
 pub(crate) struct Replay<R> {
-    rules: [R; MINUTES],
-    figures: [Power; MINUTES],
-    count: usize,
-    next: usize,
+    minutes: ArrayVec<Minute<R>, ROOM, R>,
+    next: Next,
 }
 
 impl<R: Copy> Replay<R> {
@@ -26,10 +51,8 @@ impl<R: Copy> Replay<R> {
         ensures { Heard [] result }
     {
         Replay {
-            rules: [rule; MINUTES],
-            figures: [Power::from_units(0); MINUTES],
-            count: 0,
-            next: 0,
+            minutes: ArrayVec::new_in(rule),
+            next: Next::Rule(0),
         }
     }
 
@@ -37,11 +60,7 @@ impl<R: Copy> Replay<R> {
     pub(crate) fn push(&mut self, rule: R, figure: Power)
         ensures { self.new ≡ minutes_after self.old rule figure }
     {
-        if self.count < MINUTES {
-            self.rules[self.count] = rule;
-            self.figures[self.count] = figure;
-            self.count += 1;
-        }
+        let _ = self.minutes.try_push(Minute { rule, figure });
     }
 }
 
@@ -51,16 +70,17 @@ impl<R: Copy> AccountClient<R> for Replay<R> {
     ghost chose = { Chose };
 
     fn choose(&mut self) -> Option<Call<R>> {
-        let at = self.next / 2;
-        if at >= self.count || at >= MINUTES {
-            return None;
-        }
-        let is_rule = self.next % 2 == 0;
-        self.next += 1;
-        if is_rule {
-            Some(Call::Replace(self.rules[at]))
-        } else {
-            Some(Call::Add(self.figures[at]))
+        match self.next {
+            Next::Rule(at) => {
+                let minute = self.minutes.get(at)?;
+                self.next = Next::Figure(at);
+                Some(Call::Replace(minute.rule))
+            }
+            Next::Figure(at) => {
+                let minute = self.minutes.get(at)?;
+                self.next = Next::Rule(at + 1);
+                Some(Call::Add(minute.figure))
+            }
         }
     }
 
@@ -70,11 +90,13 @@ impl<R: Copy> AccountClient<R> for Replay<R> {
 /// More turns than the minutes can take.
 const TURNS: u64 = 100;
 
-/// The total of a new account that judges the minutes from the first: the least change that brings their figures inside
-/// their bands.
-pub(crate) fn total<R: BandRule + Copy + Drop>(minutes: &mut Replay<R>, rule: R) -> Power
-    ensures { Followed R.BandRule.lowest R.BandRule.highest Heard Chose rule 100 minutes.new result.units }
-{
-    minutes.next = 0;
-    follow(minutes, rule, TURNS)
+impl<R: BandRule + Copy + Drop> Replay<R> {
+    /// The total of a new account that judges the minutes from the first: the least change that brings their figures
+    /// inside their bands.
+    pub(crate) fn total(&mut self, rule: R) -> Power
+        ensures { Followed R.BandRule.lowest R.BandRule.highest Heard Chose rule 100 self.new result.units }
+    {
+        self.next = Next::Rule(0);
+        follow(self, rule, TURNS)
+    }
 }

@@ -1,3 +1,4 @@
+pub mod Fits
 pub mod Turns
 pub mod Reading
 pub mod Drafts

@@ -1,10 +1,8 @@
 -- The first fault of what is left, line by line.
-use Rattle.std.proofs.Common.{◌≡◌, ℕ, ◌+◌, List, [], ◌∷◌, ◌++◌, length, take, drop, Some, None, Ok, Err, Option, sym, refl, ap, ◌∙◌}
-use Rattle.std.proofs.lemmas.List.{take-append-drop, drop-drop}
+use Rattle.std.proofs.Common.{◌≡◌, ℕ, ◌+◌, List, [], ◌∷◌, Some, None, Ok, Err, Option, sym, refl, ap, ◌∙◌}
 use Rattle.text_parts.specs.declared.line.Line.{Line}
 use Rattle.text_parts.specs.declared.lines.Lines.{Lines}
 use Rattle.text_parts.specs.Lines.{lines_of, rest_of, Advanced}
-use Rattle.text_parts.proofs.Front.{line_front}
 use Rattle.line_text.specs.Faults.{Fault, Judged}
 use Rattle.line_text.specs.declared.fault.LineFault.{LineFault}
 use Rattle.statement_lines.specs.declared.statement_line.StatementLine.{StatementLine}
@@ -42,15 +40,6 @@ pub refused_here :
 refused_here reader after line found moved judged =
     rw (moved.first, line_next reader.stage (reader.lines.taken + 1) line.bytes.now (lines_of (rest_of after)), moved.number)
     (placed (reader.lines.taken + 1) (fault_at reader.stage line.bytes.now) _ found judged)
-
--- what was left is the line and what is left
-pub rest_split : (before after : Lines) (line : Line) → Advanced before after line → rest_of before ≡ line.bytes.now ++ rest_of after
-rest_split before after line moved =
-    let text = before.text.now in
-    let n = length line.bytes.now in
-    let front : take n (rest_of before) ≡ line.bytes.now = rw moved.is (line_front (rest_of before)) in
-    let back : drop n (rest_of before) ≡ rest_of after = drop-drop n before.at text ∙ ap (λ (k : ℕ). drop k text) (sym moved.at) ∙ ap (λ (t : List ℕ). drop after.at t) (sym moved.same) in
-    sym (take-append-drop n (rest_of before)) ∙ rw (front, back)
 
 -- a line that is taken has no fault
 pub no_fault_here : (fault : Option Fault) (turn : Turn) → Judged fault (Ok turn) → fault ≡ None

@@ -1,6 +1,6 @@
 -- A statement that is being read: what a line adds, and what was read by each stage.
-use Rattle.std.specs.Prelude.{◌≡◌, ℕ, ◌+◌, ◌<◌, ◌≤◌, List, [], ◌∷◌, ◌++◌, length, take, Some, None}
-use Rattle.std.specs.List.{AllByRecursion}
+use Rattle.std.specs.Prelude.{◌≡◌, ℕ, ◌<◌, ◌≤◌, List, [], ◌∷◌, ◌++◌, length, Some, None}
+use Rattle.std.specs.List.{All}
 use Rattle.statement_lines.specs.declared.opening.Opening.{Opening as OpeningOf}
 use Rattle.statement_lines.specs.declared.record.SettlementRecord.{SettlementRecord}
 use Rattle.statement_lines.specs.declared.statement_line.StatementLine.{StatementLine}
@@ -11,20 +11,21 @@ use Rattle.statement_lines.specs.Records.{figures_of}
 use Rattle.statement.specs.declared.read.Draft.{Draft}
 use Rattle.statement.specs.declared.stage.Stage.{Stage}
 use Rattle.statement.specs.declared.stage.Stage.TheVariants.{BeforeOpening, InRecords, AfterTail}
-use Rattle.statement.specs.Statements.{Fit, records_text, StatementIn}
+use Rattle.figure_text.specs.Rows.{Writable}
+use Rattle.statement.specs.Statements.{records_text, StatementIn}
 
 -- the records so far
 abbrev pub drafted : Draft → List SettlementRecord
-drafted d = take d.records.count d.records.list
+drafted d = d.records.items
 
 -- nothing was read
 abbrev pub Blank : Draft → Type 0
-Blank d = (d.opening ≡ None) × (d.tail ≡ None) × (d.records.count ≡ 0) × (drafted d ≡ [])
+Blank d = (d.opening ≡ None) × (d.tail ≡ None) × (drafted d ≡ [])
 
 -- what a line adds; a hundred records are the most
 abbrev pub Added : Draft → StatementLine → Draft → Type 0
 Added d (Opening o) e = (e.opening ≡ Some o) × (e.records ≡ d.records) × (e.tail ≡ d.tail)
-Added d (Record r) e = (e.opening ≡ d.opening) × (d.records.count < 100 → (e.records.count ≡ d.records.count + 1) × (drafted e ≡ drafted d ++ r.«record» ∷ [])) × (e.tail ≡ d.tail)
+Added d (Record r) e = (e.opening ≡ d.opening) × (length (drafted d) < 100 → drafted e ≡ drafted d ++ r.«record» ∷ []) × (e.tail ≡ d.tail)
 Added d (Tail t) e = (e.opening ≡ d.opening) × (e.records ≡ d.records) × (e.tail ≡ Some t)
 
 -- the opening and the records of a day with so many quarter hours
@@ -32,10 +33,9 @@ pub record Begun (hours closed : ℕ) (d : Draft) (front : List ℕ) : Type 0 wh
   pub opened : OpeningOf
   pub opening : d.opening ≡ Some opened
   pub long : hours ≡ quarter_hours_of opened.length
-  pub count : d.records.count ≡ closed
   pub many : length (drafted d) ≡ closed
   pub within : closed ≤ hours
-  pub fit : AllByRecursion (λ r. Fit (figures_of r)) (drafted d)
+  pub fit : All (λ r. Writable (figures_of r)) (drafted d)
   pub text : front ≡ opening_text opened ++ records_text 1 (drafted d)
 
 -- all of it

@@ -1,22 +1,17 @@
 -- A day's statement is its opening line, a record line for each of its records in order, and its tail line.
-use Rattle.std.specs.Prelude.{◌≡◌, ℕ, ◌+◌, ◌*◌, ◌^◌, ◌<◌, ◌≤◌, Bool, true, ◌&&◌, List, [], ◌∷◌, ◌++◌, length, take, ℤ, Option, ◌==◌, nat_le, unsigned_abs}
-use Rattle.std.specs.List.{AllByRecursion}
+use Rattle.std.specs.Prelude.{◌≡◌, ℕ, ◌+◌, ◌*◌, ◌≤◌, Bool, ◌&&◌, List, [], ◌∷◌, ◌++◌, length, ℤ, Option, ◌==◌, nat_le}
+use Rattle.std.specs.List.{All, list_all}
 use Rattle.count_text.specs.Columns.{write_refusal}
-use Rattle.figure_text.specs.Rows.{writable}
+use Rattle.figure_text.specs.Rows.{Writable, writable}
 use Rattle.statement_lines.specs.declared.opening.Opening.{Opening}
 use Rattle.statement_lines.specs.declared.record.SettlementRecord.{SettlementRecord}
 use Rattle.statement_lines.specs.Openings.{quarter_hours_of, opening_text}
 use Rattle.statement_lines.specs.Records.{figures_of, record_text, tail_text}
 use Rattle.statement.specs.declared.statement.Statement.{Statement}
 
--- figures that their columns can hold
-abbrev pub Fit : List ℤ → Type 0
-Fit xs = AllByRecursion (λ x. unsigned_abs x < 10 ^ 18) xs
-
--- records of such figures, as a test
+-- records of figures that their columns can hold, as a test
 abbrev pub every_fits : List SettlementRecord → Bool
-every_fits [] = true
-every_fits (r ∷ rs) = writable (figures_of r) && every_fits rs
+every_fits rs = list_all (λ r. writable (figures_of r)) rs
 
 -- record lines, the first with this number
 abbrev pub records_text : ℕ → List SettlementRecord → List ℕ
@@ -30,9 +25,9 @@ statement_text o rs requests = opening_text o ++ (records_text 1 rs ++ tail_text
 -- what can be a statement: no more records than the day has quarter hours, six requests, and figures that their columns can hold
 pub record Whole (o : Opening) (rs : List SettlementRecord) (requests : List ℤ) : Type 0 where
   pub within : length rs ≤ quarter_hours_of o.length
-  pub records_fit : AllByRecursion (λ r. Fit (figures_of r)) rs
+  pub records_fit : All (λ r. Writable (figures_of r)) rs
   pub six : length requests ≡ 6
-  pub requests_fit : Fit requests
+  pub requests_fit : Writable requests
 
 -- the same as a test
 abbrev pub is_statement : Opening → List SettlementRecord → List ℤ → Bool
@@ -52,7 +47,7 @@ StatementIn o rs requests text = Whole o rs requests × (text ≡ statement_text
 
 -- the records of a statement
 abbrev pub records_of : Statement → List SettlementRecord
-records_of s = take s.records.count s.records.list
+records_of s = s.records.items
 
 -- a statement of these values
 abbrev pub Holds : Statement → Opening → List SettlementRecord → List ℤ → Type 0

@@ -16,7 +16,6 @@
 mod fault;
 mod read;
 mod reader;
-mod records;
 mod stage;
 mod statement;
 mod write;

@@ -7,12 +7,12 @@ ghost use Rattle.statement.specs.Statements.{StatementIn, records_of, Holds};
 
 use crate::fault::TextFault;
 use crate::reader::StatementReader;
-use crate::records::Records;
-use crate::statement::Statement;
+use crate::statement::{Records, Statement};
+use arrayvec::ArrayVec;
 use statement_lines::{Opening, SettlementRecord, StatementLine, TailLine};
 
 /// What was read of a statement so far.
-#[derive(Clone, Copy)]
+#[derive(Drop)]
 pub(crate) struct Draft {
     opening: Option<Opening>,
     records: Records,
@@ -25,7 +25,7 @@ impl Draft {
     {
         Draft {
             opening: None,
-            records: Records::new(),
+            records: ArrayVec::new(),
             tail: None,
         }
     }
@@ -36,12 +36,16 @@ impl Draft {
     {
         match content {
             StatementLine::Opening(opening) => self.opening = Some(opening),
-            StatementLine::Record(row) => self.records.push(row.record),
+            StatementLine::Record(row) => {
+                // There is room: no day has more than a hundred records.
+                let _ = self.records.try_push(row.record);
+            }
             StatementLine::Tail(tail) => self.tail = Some(tail),
         }
     }
 
     /// The statement, once its opening and its tail were read.
+    // No `?`: a text without a fault has both, and no refusal stands for one that lacks them.
     fn finish(self) -> Statement
         requires { (is_some self.opening ≡ true) × (is_some self.tail ≡ true) }
         ensures opening { self.opening ≡ Some result.opening }

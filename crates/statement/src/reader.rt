@@ -44,28 +44,25 @@ impl<'a> StatementReader<'a> {
     /// Reads the next line of the statement; none behind its tail.
     /// Refuses a line with a fault of its own (17, 18), a line that does not come here, any line after the tail, and a text
     /// that stops before its tail (19); a refusal leaves the reader where it was.
+    // No Iterator: a refusal leaves the reader where it was, so it would come again without end.
     pub fn next(&mut self) -> Result<Option<StatementLine>, TextFault>
         ensures { NextRead self.old self.new result }
     {
         let mut lines = self.lines;
-        match lines.next() {
-            Some(line) => match self.stage.take(line.bytes()) {
-                Ok(turn) => {
-                    *self = StatementReader {
-                        lines,
-                        line: Some(line),
-                        stage: turn.stage,
-                    };
-                    Ok(Some(turn.content))
-                }
-                Err(fault) => Err(TextFault {
-                    refusal: fault.refusal,
-                    line: line.number(),
-                    column: fault.column,
-                }),
-            },
-            None => self.ended(),
-        }
+        let Some(line) = lines.next() else {
+            return self.ended();
+        };
+        // Not `map_err`: what holds of the fault is proved where it has a name.
+        let turn = match self.stage.take(line.bytes()) {
+            Ok(turn) => turn,
+            Err(fault) => return Err(TextFault::in_line(line.number(), fault)),
+        };
+        *self = StatementReader {
+            lines,
+            line: Some(line),
+            stage: turn.stage,
+        };
+        Ok(Some(turn.content))
     }
 
     /// What is said of a text that has no line left.

@@ -39,31 +39,6 @@ fn not_in_turn() -> LineFault
     }
 }
 
-/// What may come after the record of this number, or none where it is not the next or past the day's quarter hours.
-fn next_record(quarter_hours: u64, closed: u64, number: u64) -> Option<Stage>
-    ensures { result ≡ (if record_comes quarter_hours closed number then Some (InRecords quarter_hours (closed + 1)) else None) }
-{
-    if closed < quarter_hours && number == closed + 1 {
-        Some(Stage::InRecords {
-            quarter_hours,
-            closed: number,
-        })
-    } else {
-        None
-    }
-}
-
-/// What may come after a tail with this count, or none where it is not that of the records.
-fn tail_of(closed: u64, count: u64) -> Option<Stage>
-    ensures { result ≡ (if nat_eq count closed then Some AfterTail else None) }
-{
-    if count == closed {
-        Some(Stage::AfterTail)
-    } else {
-        None
-    }
-}
-
 impl Stage {
     /// Whether the tail was read.
     pub(crate) fn is_ended(self) -> bool
@@ -87,14 +62,15 @@ impl Stage {
                     closed,
                 },
                 StatementLine::Record(row),
-            ) => next_record(quarter_hours, closed, row.quarter_hour),
-            (
-                Stage::InRecords {
-                    quarter_hours: _,
-                    closed,
-                },
-                StatementLine::Tail(row),
-            ) => tail_of(closed, row.closed),
+            ) if closed < quarter_hours && row.quarter_hour == closed + 1 => {
+                Some(Stage::InRecords {
+                    quarter_hours,
+                    closed: row.quarter_hour,
+                })
+            }
+            (Stage::InRecords { closed, .. }, StatementLine::Tail(row)) if row.closed == closed => {
+                Some(Stage::AfterTail)
+            }
             _ => None,
         }
     }
@@ -109,9 +85,9 @@ impl Stage {
             return Err(not_in_turn());
         }
         let content = read_line(line)?;
-        match self.after(&content) {
-            Some(stage) => Ok(Turn { content, stage }),
-            None => Err(not_in_turn()),
-        }
+        let Some(stage) = self.after(&content) else {
+            return Err(not_in_turn());
+        };
+        Ok(Turn { content, stage })
     }
 }

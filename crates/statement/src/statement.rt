@@ -1,12 +1,18 @@
 //! A statement as values.
 
-ghost use Rattle.std.specs.Prelude.{◌≡◌, take as first};
+ghost use Rattle.std.specs.Prelude.{◌≡◌};
 
-use crate::records::Records;
+use arrayvec::ArrayVec;
 use statement_lines::{Opening, SettlementRecord, TailLine};
 
+/// The most records of a day: the longest has a hundred quarter hours.
+const MOST: usize = 100;
+
+/// The records of a day's closed quarter hours, in order.
+pub(crate) type Records = ArrayVec<SettlementRecord, MOST>;
+
 /// A day's statement: its opening, the record of each closed quarter hour in order, and its tail.
-#[derive(Clone, Copy)]
+#[derive(Clone, Drop)]
 pub struct Statement {
     pub(crate) opening: Opening,
     pub(crate) records: Records,
@@ -22,7 +28,7 @@ impl Statement {
 
     /// The record of each closed quarter hour, in order.
     pub fn records(&self) -> &[SettlementRecord]
-        ensures { result.now ≡ first self.now.records.count self.now.records.list }
+        ensures { result.now ≡ self.now.records.items }
     {
         self.records.as_slice()
     }

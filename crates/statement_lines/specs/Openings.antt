@@ -20,15 +20,19 @@ OtherLength n = (length : DayLength) → quarter_hours_of length ≢ n
 
 -- an opening behind its letter: the day in six columns, its quarter hours in three, the groups in one
 abbrev pub behind_letter : Opening → List ℕ
-behind_letter o = count_text_of 6 o.day.number ++ (count_text_of 3 (quarter_hours_of o.length) ++ (count_text_of 1 o.groups.count ++ (10 ∷ [])))
+behind_letter o = count_text_of 6 o.day.number ++ (count_text_of 3 (quarter_hours_of o.length) ++ (count_text_of 1 o.groups.number ++ (10 ∷ [])))
 
 -- the opening line: D (68)
 abbrev pub opening_text : Opening → List ℕ
 opening_text o = 68 ∷ behind_letter o
 
+-- a number from 1 to a limit in so many columns
+abbrev pub is_up_to : ℕ → ℕ → List ℕ → Bool
+is_up_to most w text = is_count w text && (nat_le 1 (number_in text) && nat_le (number_in text) most)
+
 -- a day from 1 to 999,999 in six columns
 abbrev pub is_day : List ℕ → Bool
-is_day text = is_count 6 text && nat_le 1 (number_in text)
+is_day text = is_up_to 999999 6 text
 
 -- quarter hours that a day may have, in three columns
 abbrev pub is_day_length : List ℕ → Bool
@@ -36,7 +40,7 @@ is_day_length text = is_count 3 text && (number_in text == 92 || (number_in text
 
 -- one to eight groups in one column
 abbrev pub is_group_count : List ℕ → Bool
-is_group_count text = is_count 1 text && (nat_le 1 (number_in text) && nat_le (number_in text) 8)
+is_group_count text = is_up_to 8 1 text
 
 -- what is wrong behind the letter, in the order of checks: the length, then each field from the left
 abbrev pub opening_fault : List ℕ → Option Fault

@@ -6,16 +6,17 @@ ghost use Rattle.statement_lines.specs.Openings.{quarter_hours_of, OtherLength};
 /// How many quarter hours a delivery day has.
 #[derive(Clone, Copy, PartialEq, Eq, Debug)]
 pub enum DayLength {
-    /// 92: an hour is left out where the clocks go forward.
-    Short,
-    /// 96.
-    Ordinary,
-    /// 100: an hour comes twice where the clocks go back.
-    Long,
+    /// An hour is left out where the clocks go forward.
+    Short = 92,
+    /// As most days are.
+    Ordinary = 96,
+    /// An hour comes twice where the clocks go back.
+    Long = 100,
 }
 
 impl DayLength {
     /// The length of a day with so many quarter hours, where there is such a day.
+    // Not `TryFrom`: like each type with limits here it answers none, and an error would say no more.
     pub fn new(quarter_hours: u64) -> Option<DayLength>
         ensures { MatchOption result (OtherLength quarter_hours) (λ length. quarter_hours_of length ≡ quarter_hours) }
     {
@@ -30,10 +31,6 @@ impl DayLength {
     pub fn quarter_hours(self) -> u64
         ensures { result ≡ quarter_hours_of self }
     {
-        match self {
-            DayLength::Short => 92,
-            DayLength::Ordinary => 96,
-            DayLength::Long => 100,
-        }
+        self as u64
     }
 }

@@ -30,4 +30,4 @@ pub use opening_line::{OPENING_LENGTH, write_opening_line};
 pub use record::SettlementRecord;
 pub use record_line::{RECORD_LENGTH, RecordLine, write_record_line};
 pub use statement_line::{StatementLine, read_line};
-pub use tail_line::{TAIL_LENGTH, TailLine, write_tail_line};
+pub use tail_line::{REQUESTS, TAIL_LENGTH, TailLine, write_tail_line};

@@ -1,38 +1,18 @@
 //! The opening line, written and read.
 
-ghost use Rattle.std.specs.Prelude.{◌≡◌, ◌≤◌, true, ◌∷◌, ◌++◌, length, drop, is_some, IfSome, IfOk, MatchResult, slice_index};
+ghost use Rattle.std.specs.Prelude.{◌≡◌, ◌∷◌, length, is_some, IfSome, IfOk, slice_index};
 ghost use Rattle.count_text.specs.Columns.{CountIn, Writes, bytes_after};
 ghost use Rattle.line_text.specs.Faults.{Judged};
-ghost use Rattle.statement_lines.specs.Openings.{quarter_hours_of, behind_letter, opening_text, is_day, is_day_length, is_group_count, opening_fault, opening_refusal};
+ghost use Rattle.statement_lines.specs.Openings.{quarter_hours_of, behind_letter, opening_text, is_up_to, is_day_length, opening_fault, opening_refusal};
 
-use crate::day::Day;
 use crate::day_length::DayLength;
-use crate::group_count::GroupCount;
 use crate::opening::Opening;
 use count_text::{Width, read_count, write_count};
 use line_text::{LineFault, is_whole};
-use quantity::Refusal;
+use quantity::{Refusal, UpTo};
 
 /// The bytes of an opening line: the letter, six columns for the day, three for its quarter hours, one for the groups, LF.
 pub const OPENING_LENGTH: usize = 12;
-
-/// Writes an opening line over the first bytes of `out`.
-/// Refuses nothing, since there is room and the columns hold each count.
-fn put_opening(opening: &Opening, out: &mut [u8]) -> Result<(), Refusal>
-    requires { 12 ≤ length out.old }
-    ensures { MatchResult result (λ _. out.new ≡ opening_text opening.now ++ drop 12 out.old) (λ _. ⊥) }
-{
-    out[0] = b'D';
-    write_count(opening.day.number(), Width::SIX, &mut out[1..7])?;
-    write_count(
-        opening.length.quarter_hours(),
-        Width::THREE,
-        &mut out[7..10],
-    )?;
-    write_count(opening.groups.count(), Width::ONE, &mut out[10..11])?;
-    out[11] = b'\n';
-    Ok(())
-}
 
 /// Writes an opening line over the first bytes of `out`.
 /// Refuses a buffer that is shorter than the line (16) and leaves every byte as it was.
@@ -43,40 +23,34 @@ pub fn write_opening_line(opening: &Opening, out: &mut [u8]) -> Result<(), Refus
     if out.len() < OPENING_LENGTH {
         return Err(Refusal::BufferTooShort);
     }
-    put_opening(opening, out)
+    out[0] = b'D';
+    write_count(opening.day.number(), Width::SIX, &mut out[1..7]).unwrap();
+    write_count(
+        opening.length.quarter_hours(),
+        Width::THREE,
+        &mut out[7..10],
+    )
+    .unwrap();
+    write_count(opening.groups.number(), Width::ONE, &mut out[10..11]).unwrap();
+    out[11] = b'\n';
+    Ok(())
 }
 
-/// The day that six columns write, where there is such a day.
-fn day_in(text: &[u8]) -> Option<Day>
-    ensures test { is_some result ≡ is_day text.now }
-    ensures read_is_written { IfSome result (λ day. CountIn 6 day.number text.now) }
+/// The number from 1 to MOST that a text writes over its columns, where it does.
+fn up_to_in<const MOST: u64>(text: &[u8], width: Width) -> Option<UpTo<MOST>>
+    ensures test { is_some result ≡ is_up_to MOST width.columns text.now }
+    ensures read_is_written { IfSome result (λ n. CountIn width.columns n.number text.now) }
 {
-    match read_count(text, Width::SIX) {
-        Ok(number) => Day::new(number),
-        Err(_) => None,
-    }
+    UpTo::new(read_count(text, width).ok()?)
 }
 
 /// The length of a day that three columns write, where there is such a day.
+// Not `up_to_in`: a length is one of three cases, and no number up to a limit.
 fn day_length_in(text: &[u8]) -> Option<DayLength>
     ensures test { is_some result ≡ is_day_length text.now }
     ensures read_is_written { IfSome result (λ length. CountIn 3 (quarter_hours_of length) text.now) }
 {
-    match read_count(text, Width::THREE) {
-        Ok(quarter_hours) => DayLength::new(quarter_hours),
-        Err(_) => None,
-    }
-}
-
-/// The groups that one column writes, where a pool may have so many.
-fn group_count_in(text: &[u8]) -> Option<GroupCount>
-    ensures test { is_some result ≡ is_group_count text.now }
-    ensures read_is_written { IfSome result (λ groups. CountIn 1 groups.count text.now) }
-{
-    match read_count(text, Width::ONE) {
-        Ok(count) => GroupCount::new(count),
-        Err(_) => None,
-    }
+    DayLength::new(read_count(text, Width::THREE).ok()?)
 }
 
 /// Reads what stands behind the letter of an opening line.
@@ -88,15 +62,9 @@ pub(crate) fn read_opening(line: &[u8]) -> Result<Opening, LineFault>
     if !is_whole(line, OPENING_LENGTH) {
         return Err(LineFault::not_a_line());
     }
-    let Some(day) = day_in(&line[1..7]) else {
-        return Err(LineFault::not_in_form(2));
-    };
-    let Some(length) = day_length_in(&line[7..10]) else {
-        return Err(LineFault::not_in_form(8));
-    };
-    let Some(groups) = group_count_in(&line[10..11]) else {
-        return Err(LineFault::not_in_form(11));
-    };
+    let day = up_to_in(&line[1..7], Width::SIX).ok_or(LineFault::not_in_form(2))?;
+    let length = day_length_in(&line[7..10]).ok_or(LineFault::not_in_form(8))?;
+    let groups = up_to_in(&line[10..11], Width::ONE).ok_or(LineFault::not_in_form(11))?;
     Ok(Opening {
         day,
         length,

@@ -9,7 +9,7 @@ use quantity::{Energy, Power, Share};
 pub(crate) const FIGURES: usize = 8;
 
 /// What the settlement of a quarter hour comes to.
-#[derive(Clone, Copy)]
+#[derive(Clone, Copy, Default)]
 pub struct SettlementRecord {
     /// FCR that is recognised, the mean of the quarter hour.
     pub recognised: Power,
@@ -50,15 +50,25 @@ impl SettlementRecord {
     pub fn of_figures(figures: &[i64; FIGURES]) -> SettlementRecord
         ensures { figures_of result ≡ figures.now }
     {
+        let [
+            recognised,
+            missing,
+            upward_deviation,
+            downward_deviation,
+            upward_energy,
+            downward_energy,
+            upward_share,
+            downward_share,
+        ] = *figures;
         SettlementRecord {
-            recognised: Power::from_units(figures[0]),
-            missing: Power::from_units(figures[1]),
-            upward_deviation: Power::from_units(figures[2]),
-            downward_deviation: Power::from_units(figures[3]),
-            upward_energy: Energy::from_units(figures[4]),
-            downward_energy: Energy::from_units(figures[5]),
-            upward_share: Share::from_units(figures[6]),
-            downward_share: Share::from_units(figures[7]),
+            recognised: Power::from_units(recognised),
+            missing: Power::from_units(missing),
+            upward_deviation: Power::from_units(upward_deviation),
+            downward_deviation: Power::from_units(downward_deviation),
+            upward_energy: Energy::from_units(upward_energy),
+            downward_energy: Energy::from_units(downward_energy),
+            upward_share: Share::from_units(upward_share),
+            downward_share: Share::from_units(downward_share),
         }
     }
 }

@@ -14,7 +14,7 @@ use quantity::Refusal;
 pub const TAIL_LENGTH: usize = 125;
 
 /// The requests that a tail hands on: those of the six newest minutes, which open the next day's window.
-const REQUESTS: usize = 6;
+pub const REQUESTS: usize = 6;
 
 /// How many quarter hours were closed, and the six newest requests, oldest first.
 #[derive(Clone, Copy)]

@@ -1,20 +1,17 @@
-use Rattle.std.proofs.Common.{◌≡◌, ℕ, Ok, Err, Result, sym, refl, arith}
+use Rattle.std.proofs.Common.{sym, ◌∙◌}
 use Rattle.std.proofs.lemmas.Bool.{and_left}
-use Rattle.quantity.specs.declared.refusal.Refusal.{Refusal}
 use Rattle.count_text.specs.Forms.{is_count}
-use Rattle.count_text.proofs.Forms.{is_not_count}
-use Rattle.statement_lines.proofs.Openings.{day_length_read}
+use Rattle.statement_lines.proofs.Openings.{count_none, ok_some, day_length_read}
 use Rattle.statement_lines.proofs.opening_line.day_length_in.Goals as goal
 
-err_ok : (e : Refusal) (n : ℕ) → ◌≡◌ {A = Result ℕ Refusal} (Err e) (Ok n) → ⊥
-err_ok e n is = let z : ◌≡◌ {A = ℕ} 0 1 = cc in omega arith
+pub returns-in_err-ok-clause-test : goal.returns-in_err-ok-clause-test
+returns-in_err-ok-clause-test c =
+    let text = c.args.text.now in
+    let none = count_none 3 text _ c.read_count.ensures.written_is_read (sym c.ok.ensures.value ∙ c.in_err-ok.was) in
+    rw c.from_residual.ensures (sym (and_left (is_count 3 text) _ none))
 
-pub returns-in-Ok : goal.returns-in-Ok
-returns-in-Ok c =
-    let p = day_length_read _ c.args.text.now c.new.result (c.in-Ok.ensures.read_is_written _ refl) c.new.ensures in
+pub returns : goal.returns
+returns c =
+    let h = c.read_count.ensures.read_is_written _ (ok_some _ _ (sym c.ok.ensures.value ∙ c.in_ok-ok.was)) in
+    let p = day_length_read _ c.args.text.now c.new.result h c.new.ensures in
     record { test = p.0; read_is_written = p.1 }
-
-pub returns-in-Err : goal.returns-in-Err
-returns-in-Err c =
-    let never = is_not_count 3 c.args.text.now (λ n h. err_ok _ n (c.in-Err.ensures.written_is_read n h)) in
-    record { test = sym (and_left (is_count 3 c.args.text.now) _ never); read_is_written = tt }

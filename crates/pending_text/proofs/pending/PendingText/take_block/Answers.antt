@@ -1,6 +1,7 @@
-use Rattle.std.proofs.Common.{refl}
-use Rattle.pending_text.proofs.Parts.{block_taken}
+use Rattle.std.proofs.Common.{length, ap, ◌∙◌, arith, length-drop}
 use Rattle.pending_text.proofs.pending.PendingText.take_block.Goals as goal
 
-pub returns-clause-taken : goal.returns-clause-taken
-returns-clause-taken c = block_taken c.args.self.now _ c.args.out.now _ c.if-self-lt-BLOCK.false c.if-out-lt-BLOCK.false c.copy_front.ensures c.behind_block.ensures refl
+pub invariant_of-self : goal.invariant_of-self
+invariant_of-self c =
+    let old = c.args.self.now.text.items in
+    record { within = omega (arith, ap length (c.drop-drain.ensures (omega arith) ∙ c.drain.ensures.kept), length-drop 512 old) }

@@ -1,14 +1,7 @@
-use Rattle.std.proofs.Common.{refl, arith}
+use Rattle.std.proofs.Common.{refl}
 use Rattle.std.proofs.lemmas.Bool.Decides.{not_from_Decides}
 use Rattle.statement.proofs.Reading.{stopped}
 use Rattle.statement.proofs.reader.StatementReader.ended.Goals as goal
-
-pub overflow_add-result : goal.overflow_add-result
-overflow_add-result c =
-    let a = c.args.self.now.lines.within in
-    let b = c.args.self.now.lines.counted in
-    let d = c.args.self.now.lines.short in
-    omega (arith, c.taken.ensures)
 
 pub returns : goal.returns
 returns c =

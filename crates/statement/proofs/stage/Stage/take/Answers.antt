@@ -1,4 +1,5 @@
-use Rattle.std.proofs.Common.{sym, refl}
+use Rattle.std.proofs.Common.{◌≡◌, None, sym, refl}
+use Rattle.statement.specs.Turns.{stage_after}
 use Rattle.std.proofs.lemmas.Result.{err_from_is_err_and}
 use Rattle.std.proofs.lemmas.Bool.Decides.{not_from_Decides}
 use Rattle.statement.specs.declared.stage.Turn.{Turn}
@@ -12,14 +13,15 @@ returns-in_err-content c =
     let judged = turn_broken Turn c.args.self c.args.line.now c.in_err-content.field-0.0 other c.in_err-content.ensures.first_fault in
     rw (p.1, p.2) (record { first_fault = judged; turn = tt })
 
-pub returns-in-Some : goal.returns-in-Some
-returns-in-Some c =
+pub returns : goal.returns
+returns c =
     let is = c.in_ok-content.ensures.read_is_written in
     let p = turn-taken c.args.self c.in_ok-content.content c.args.line.now is c.in-Some.stage c.in-Some.ensures in
     record { first_fault = rw p.0 tt; turn = (is, p.1, sym c.in-Some.ensures) }
 
-pub returns-in-None : goal.returns-in-None
-returns-in-None c =
+pub returns-in_default : goal.returns-in_default
+returns-in_default c =
     let is = c.in_ok-content.ensures.read_is_written in
-    let f = turn_refused c.args.self c.in_ok-content.content c.args.line.now is c.in-None.ensures in
-    record { first_fault = rw (f, c.not_in_turn-in-None.ensures) (refl, refl); turn = tt }
+    let none : None ≡ stage_after c.args.self c.in_ok-content.content = (cc c.after.ensures) in
+    let f = turn_refused c.args.self c.in_ok-content.content c.args.line.now is none in
+    record { first_fault = rw (f, c.not_in_turn-in_default.ensures) (refl, refl); turn = tt }
