@@ -1,38 +1,16 @@
 //! The calls of an account.
 
-ghost use Rattle.std.specs.Prelude.{◌≡◌, ◌+◌, ◌^◌, ◌<◌, List, [], pos, ◌+ℤ◌, None, unsigned_abs};
+ghost use Rattle.std.specs.Prelude.{◌≡◌, List, []};
 ghost use Rattle.quantity.specs.Refusals.{Answers};
-ghost use Rattle.bands.specs.Ends.{distance_of};
 ghost use Rattle.account.specs.Changes.{Judged};
 ghost use Rattle.account.specs.Accounts.{judged, add_refusal_of, Holds, HoldsAfter};
 
 use crate::state::Account;
-use bands::{BandRule, FIGURE_LIMIT, distance};
-use quantity::{Power, Refusal, is_within};
+use bands::{BandRule, distance};
+use quantity::{Power, Refusal};
 
 /// The figures that an account takes: the minutes of a quarter hour.
 const FIGURES: u8 = 15;
-
-/// Refuses a figure beyond its limit (11), then any where so many as an account takes were taken (12).
-fn admit(figure: Power, count: u8) -> Result<(), Refusal>
-    ensures { Answers (add_refusal_of figure.units count) (λ _. Unit {0}) result }
-{
-    if !is_within(figure.units(), -FIGURE_LIMIT, FIGURE_LIMIT) {
-        return Err(Refusal::OutOfRange);
-    }
-    if count >= FIGURES {
-        return Err(Refusal::PlaceTaken);
-    }
-    Ok(())
-}
-
-/// A total and one distance more.
-fn sum(total: Power, distance: Power) -> Power
-    requires { unsigned_abs total.units + unsigned_abs distance.units < 2 ^ 62 }
-    ensures { result.units ≡ total.units +ℤ distance.units }
-{
-    Power::from_units(total.units() + distance.units())
-}
 
 impl<R: BandRule + Drop> Account<R> {
     /// An account with a rule and no figure.
@@ -63,20 +41,12 @@ impl<R: BandRule + Drop> Account<R> {
         ensures rule { self.new.rule ≡ self.old.rule }
         ensures holds { (js : List Judged) → Holds js self.old.total.units self.old.count → HoldsAfter (add_refusal_of figure.units self.old.count) (judged (R.lowest self.old.rule) (R.highest self.old.rule) figure.units) js self.new.total.units self.new.count }
     {
-        admit(figure, self.count)?;
-        self.take(figure);
-        Ok(())
-    }
-
-    /// Takes a figure that is not refused.
-    fn take(&mut self, figure: Power)
-        requires { add_refusal_of figure.units self.old.count ≡ None }
-        ensures rule { self.new.rule ≡ self.old.rule }
-        ensures count { self.new.count ≡ self.old.count + 1 }
-        ensures total { self.new.total.units ≡ self.old.total.units +ℤ pos (distance_of (R.lowest self.old.rule) (R.highest self.old.rule) figure.units) }
-    {
-        let far = distance(&self.rule, figure).unwrap();
-        self.total = sum(self.total, far);
+        let far = distance(&self.rule, figure)?;
+        if self.count >= FIGURES {
+            return Err(Refusal::PlaceTaken);
+        }
+        self.total = self.total.checked_add(far).unwrap();
         self.count += 1;
+        Ok(())
     }
 }

@@ -13,7 +13,8 @@ use std::cmp::Ordering;
 pub const SAMPLES: usize = 30;
 
 /// The power that the pool was asked for in a minute, upward above zero and downward below.
-// Not a `Limited` power: only the crate of that type could give it the methods that a request has.
+// Not a `Limited` power, whose crate alone could give it methods, nor a struct round one: each definition that speaks of a
+// request would read its units through one name more.
 #[derive(Clone, Copy)]
 pub struct ActivationRequest {
     power: Power,

@@ -1,5 +1,5 @@
 -- A band has a low end and a high end, and either may be missing.
-use Rattle.std.specs.Prelude.{ℕ, ◌+◌, ◌*◌, ◌^◌, cond, ℤ, pos, ◌-ℤ◌, neg_ℤ, ◌≤ℤ◌, Some, None, Option, int_lt, unsigned_abs}
+use Rattle.std.specs.Prelude.{ℕ, ◌+◌, ◌*◌, ◌^◌, ◌≤◌, cond, ℤ, pos, ◌-ℤ◌, neg_ℤ, ◌≤ℤ◌, Some, None, Option, int_lt, unsigned_abs}
 use Rattle.quantity.specs.Refusals.{unless}
 use Rattle.quantity.specs.Series.{within}
 
@@ -17,6 +17,11 @@ AtMost (Some high) x = x ≤ℤ high
 abbrev pub Ordered : Option ℤ → Option ℤ → Type 0
 Ordered None high = Unit {0}
 Ordered (Some low) high = AtMost high low
+
+-- an end, where there is one, lies within 2 * 10^15 units of zero
+abbrev pub EndLimited : Option ℤ → Type 0
+EndLimited None = Unit {0}
+EndLimited (Some e) = unsigned_abs e ≤ 2 * 10 ^ 15
 
 -- how far x lies below the low end
 abbrev pub below : Option ℤ → ℤ → ℕ

@@ -7,7 +7,7 @@ use crate::bid_sum::BidSum;
 use quantity::{Divisor, Power};
 
 /// How far realised power may stray beyond the requests of the window.
-// Not a `Limited` power: two sums of bids give it, and nothing is refused.
+// Not a `Limited` power: two sums of bids give it, so its `new` would have no use, and `of_bids` no place as a method.
 #[derive(Clone, Copy)]
 pub struct Allowance {
     power: Power,
@@ -20,9 +20,9 @@ impl Allowance {
     pub fn of_bids(upward: BidSum, downward: BidSum) -> Allowance
         ensures { result.power ≡ allowance_of upward.quantity downward.quantity }
     {
-        let larger = upward.quantity().units().max(downward.quantity().units());
+        let larger = upward.quantity().max(downward.quantity());
         Allowance {
-            power: Power::from_units(larger).part(Divisor::TEN),
+            power: larger.part(Divisor::TEN),
         }
     }
 

@@ -5,6 +5,7 @@ ghost use Rattle.std.specs.Prelude.{◌^◌, pos};
 use quantity::{Limited, Limits, POWER_LIMIT, Power};
 
 /// What the accepted aFRR bids of a quarter hour and direction come to: 0 to 10,000 MW.
+// Limits of its own, though a procured reserve has the same: one type would let the one pass for the other.
 pub type BidSum = Limited<Power, BidLimits>;
 
 /// Nothing, and 10,000 MW.

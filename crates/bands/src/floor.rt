@@ -31,6 +31,10 @@ impl BandRule for Floor {
 
     ghost ordered = { Prim.search rules };
 
+    ghost low_limited = { Prim.search rules };
+
+    ghost high_limited = { Prim.search rules };
+
     fn low(&self) -> Option<BandEnd> {
         Some(self.low)
     }

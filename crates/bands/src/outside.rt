@@ -30,24 +30,14 @@ pub(crate) fn gap<R: BandRule>(rule: &R, figure: Power) -> Power
     if let Some(low) = rule.low() {
         let low = low.quantity();
         if figure < low {
-            return difference(low, figure);
+            return low.checked_sub(figure).unwrap();
         }
     }
     if let Some(high) = rule.high() {
         let high = high.quantity();
         if high < figure {
-            return difference(figure, high);
+            return figure.checked_sub(high).unwrap();
         }
     }
     Power::from_units(0)
-}
-
-/// A power less another.
-// It stands in group_report too, for other bounds: one for both would be public, and no public call requires anything.
-fn difference(power: Power, other: Power) -> Power
-    requires { unsigned_abs power.units + unsigned_abs other.units ≤ 13 * 10 ^ 15 }
-    ensures value { result.units ≡ power.units -ℤ other.units }
-    ensures bound { unsigned_abs result.units ≤ 13 * 10 ^ 15 }
-{
-    Power::from_units(power.units() - other.units())
 }

@@ -22,6 +22,6 @@ impl Order for LowestFirst {
     ghost chain = { Prim.search rules };
 
     fn is_no_later(thing: &ActivationRequest, other: &ActivationRequest) -> bool {
-        thing.power().units() <= other.power().units()
+        thing.power() <= other.power()
     }
 }

@@ -1,7 +1,7 @@
 //! Band rules: what a figure is judged by.
 
 ghost use Rattle.std.specs.Prelude.{◌≡◌, ℤ, Option, option_map};
-ghost use Rattle.bands.specs.Ends.{Ordered};
+ghost use Rattle.bands.specs.Ends.{Ordered, EndLimited};
 
 use crate::band_end::BandEnd;
 
@@ -20,4 +20,8 @@ pub trait BandRule {
         ensures { option_map (λ end. end.quantity.units) result ≡ highest self.now };
 
     ghost ordered: { (rule : Self) → Ordered (lowest rule) (highest rule) };
+
+    ghost low_limited: { (rule : Self) → EndLimited (lowest rule) };
+
+    ghost high_limited: { (rule : Self) → EndLimited (highest rule) };
 }

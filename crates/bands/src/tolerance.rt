@@ -12,7 +12,6 @@ use crate::request_orders::{HighestFirst, LowestFirst};
 use crate::rule::BandRule;
 use crate::search::first_foremost;
 use activation::ActivationRequest;
-use quantity::Power;
 
 /// The requests of a window: this minute's and those of the six minutes before it.
 pub const WINDOW: usize = 7;
@@ -39,16 +38,16 @@ fn foremost_of<O: Order<Thing = ActivationRequest>>(
 fn lower_end(request: ActivationRequest, allowance: Allowance) -> BandEnd
     ensures { result.quantity.units ≡ request.power.units -ℤ allowance.power.units }
 {
-    let units = request.power().units() - allowance.power().units();
-    BandEnd::new(Power::from_units(units)).unwrap()
+    let end = request.power().checked_sub(allowance.power());
+    BandEnd::new(end.unwrap()).unwrap()
 }
 
 /// A request and the allowance.
 fn upper_end(request: ActivationRequest, allowance: Allowance) -> BandEnd
     ensures { result.quantity.units ≡ request.power.units +ℤ allowance.power.units }
 {
-    let units = request.power().units() + allowance.power().units();
-    BandEnd::new(Power::from_units(units)).unwrap()
+    let end = request.power().checked_add(allowance.power());
+    BandEnd::new(end.unwrap()).unwrap()
 }
 
 impl ToleranceBand {
@@ -70,6 +69,10 @@ impl BandRule for ToleranceBand {
     ghost highest = { λ band. Some band.high.quantity.units };
 
     ghost ordered = { Prim.search rules };
+
+    ghost low_limited = { Prim.search rules };
+
+    ghost high_limited = { Prim.search rules };
 
     fn low(&self) -> Option<BandEnd> {
         Some(self.low)

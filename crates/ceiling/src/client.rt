@@ -43,10 +43,7 @@ impl AccountClient<Ceiling> for Repeater {
     ghost chose = { Chose };
 
     fn choose(&mut self) -> Option<Call<Ceiling>> {
-        if self.left == 0 {
-            return None;
-        }
-        self.left -= 1;
+        self.left = self.left.checked_sub(1)?;
         Some(Call::Add(self.figure))
     }
 

@@ -30,6 +30,10 @@ impl BandRule for Ceiling {
 
     ghost ordered = { Prim.search rules };
 
+    ghost low_limited = { Prim.search rules };
+
+    ghost high_limited = { Prim.search rules };
+
     fn low(&self) -> Option<BandEnd> {
         None
     }

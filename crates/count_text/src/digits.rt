@@ -11,6 +11,7 @@ pub(crate) fn digit_count(n: u64) -> usize
     ensures behind_zeros { (w : ℕ) → result ≤ w → drop (w - result) (last_digits w n) ≡ decimal n }
     ensures least { (w : ℕ) → 0 < w → (result ≤ w → n < 10 ^ w) × (n < 10 ^ w → result ≤ w) }
 {
+    // Not `from`: a usize is made of no u32.
     n.checked_ilog10().unwrap_or(0) as usize + 1
 }
 

@@ -2,6 +2,10 @@
 use Rattle.std.specs.Prelude.{◌≡◌, ℕ, ◌/◌, ◌^◌, ◌<◌, List, [], ◌∷◌, ◌++◌, ℤ, pos, negsuc, decimal, Option, nat_lt, unsigned_abs}
 use Rattle.count_text.specs.Columns.{at_right, last_digits, write_refusal}
 
+-- a figure that its columns can hold: at most eight digits before the point
+abbrev pub IsWritable : ℤ → Type 0
+IsWritable x = unsigned_abs x < 10 ^ 18
+
 -- the minus (45) of a negative figure
 abbrev pub mark : ℤ → List ℕ
 mark (pos n) = []
@@ -21,11 +25,11 @@ figure_text_of x = at_right 20 (signed_text x)
 
 -- the text of a figure that its columns can hold
 abbrev pub FigureIn : ℤ → List ℕ → Type 0
-FigureIn x text = (unsigned_abs x < 10 ^ 18) × (text ≡ figure_text_of x)
+FigureIn x text = IsWritable x × (text ≡ figure_text_of x)
 
 -- the same with no blanks before it
 abbrev pub SignedIn : ℤ → List ℕ → Type 0
-SignedIn x text = (unsigned_abs x < 10 ^ 18) × (text ≡ signed_text x)
+SignedIn x text = IsWritable x × (text ≡ signed_text x)
 
 -- what stands before the point, at the right of its nine columns
 abbrev pub whole_text : ℤ → List ℕ

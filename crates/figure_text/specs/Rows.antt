@@ -2,7 +2,7 @@
 use Rattle.std.specs.Prelude.{◌≡◌, ℕ, ◌*◌, ◌^◌, ◌<◌, Bool, List, length, take, drop, ℤ, pos, Ok, Err, Option, Result, nat_lt, slice_index_or, unsigned_abs}
 use Rattle.std.specs.List.{All, flat_map, list_all}
 use Rattle.count_text.specs.Columns.{write_refusal}
-use Rattle.figure_text.specs.Figures.{figure_text_of, FigureIn}
+use Rattle.figure_text.specs.Figures.{IsWritable, figure_text_of, FigureIn}
 
 -- the text of figures in a row
 abbrev pub row_text : List ℤ → List ℕ
@@ -10,7 +10,7 @@ row_text xs = flat_map figure_text_of xs
 
 -- each of them can be written
 abbrev pub Writable : List ℤ → Type 0
-Writable xs = All (λ x. unsigned_abs x < 10 ^ 18) xs
+Writable xs = All IsWritable xs
 
 -- whether each of them can be written
 abbrev pub writable : List ℤ → Bool

@@ -25,17 +25,18 @@ fn negative(size: u64) -> Option<i64>
 {
     match size {
         0 => None,
+        // No `From` takes a u64 to an i64.
         _ => Some(-(size as i64)),
     }
 }
 
 /// The figure that fills the whole text, no blanks before it.
-// no `From` takes a `u64` to an `i64`; a size is below 10^18, which both hold
 fn signed_in(text: &[u8]) -> Option<i64>
     ensures { Reads SignedIn text.now result }
 {
     match text.strip_prefix(b"-") {
         Some(rest) => negative(size_in(rest)?),
+        // No `From` takes a u64 to an i64.
         None => Some(size_in(text)? as i64),
     }
 }

@@ -2,7 +2,7 @@
 
 ghost use Rattle.std.specs.Prelude.{◌≡◌, ◌^◌, ◌<◌, ◌≤◌, ◌++◌, length, drop, Decides, unsigned_abs};
 ghost use Rattle.count_text.specs.Columns.{Writes, bytes_after};
-ghost use Rattle.figure_text.specs.Figures.{whole_text, figure_text_of, figure_refusal};
+ghost use Rattle.figure_text.specs.Figures.{IsWritable, whole_text, figure_text_of, figure_refusal};
 
 use crate::form::{COLUMNS, POINT, UNITS_PER_WHOLE, WHOLE_LIMIT};
 use count_text::{Width, blanks, write_count, write_fixed};
@@ -10,7 +10,7 @@ use quantity::Refusal;
 
 /// Whether a figure has at most eight digits before the point, so that its columns can hold it.
 pub fn is_writable(units: i64) -> bool
-    ensures { Decides result (unsigned_abs units < 10 ^ 18) }
+    ensures { Decides result (IsWritable units) }
 {
     units.unsigned_abs() < WHOLE_LIMIT * UNITS_PER_WHOLE
 }
@@ -18,7 +18,7 @@ pub fn is_writable(units: i64) -> bool
 /// Writes what stands before the point over the first columns of `out`: eight digits at most, so that one column is left
 /// for the minus.
 fn put_whole(units: i64, out: &mut [u8])
-    requires writable { unsigned_abs units < 10 ^ 18 }
+    requires writable { IsWritable units }
     requires room { 9 ≤ length out.old }
     ensures { out.new ≡ whole_text units ++ drop 9 out.old }
 {
@@ -30,7 +30,7 @@ fn put_whole(units: i64, out: &mut [u8])
 
 /// Writes a figure over the whole of its columns.
 pub(crate) fn put_figure(units: i64, columns: &mut [u8])
-    requires writable { unsigned_abs units < 10 ^ 18 }
+    requires writable { IsWritable units }
     requires room { length columns.old ≡ 20 }
     ensures { columns.new ≡ figure_text_of units }
 {

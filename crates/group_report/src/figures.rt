@@ -8,6 +8,7 @@ use quantity::{Energy, Limited, Limits, POWER_LIMIT, Power};
 pub const ENERGY_LIMIT: i64 = 1_000_000_000_000;
 
 /// The reserve that a group offers: 0 to 10,000 MW.
+// Limits of its own, though a sum of bids has the same: one type would let the one pass for the other.
 pub(crate) type Offer = Limited<Power, OfferLimits>;
 
 /// A measured power or a baseline: at most 10,000 MW in either direction.

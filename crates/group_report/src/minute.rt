@@ -22,7 +22,7 @@ pub fn offered_reserve(
     ensures limit { result.units ≤ℤ pos (8 * 10 ^ 14) }
 {
     let mut units = 0;
-    // By the numbers of the groups, as the rule of these sums has it; reserves last a day, and reports a minute.
+    // A rule of the project: in the order of the groups' numbers, by number; reserves last a day, and reports a minute.
     for (group, report) in reports.iter().enumerate() {
         units += offered_by(*report, reserves[group]).units();
     }
@@ -48,16 +48,9 @@ fn offered_by(report: Option<GroupReport>, reserve: PrequalifiedReserve) -> Powe
     ensures limit { result.units ≤ℤ pos (10 ^ 14) }
 {
     match report {
-        Some(report) if report.fcr().takes_part() => smaller(report.offered(), reserve.quantity()),
+        Some(report) if report.fcr().takes_part() => report.offered().min(reserve.quantity()),
         _ => Power::from_units(0),
     }
-}
-
-/// The smaller of two powers.
-fn smaller(power: Power, other: Power) -> Power
-    ensures { result.units ≡ int_min power.units other.units }
-{
-    Power::from_units(power.units().min(other.units()))
 }
 
 /// What one group realises, where it takes part in aFRR.
@@ -76,19 +69,8 @@ fn net_power(report: GroupReport) -> Power
     ensures value { result.units ≡ net_power_of report }
     ensures limit { unsigned_abs result.units ≤ 26 * 10 ^ 13 }
 {
-    difference(
-        difference(report.measured(), fcr_power(report)),
-        report.baseline(),
-    )
-}
-
-/// A power less another.
-fn difference(power: Power, other: Power) -> Power
-    requires power { unsigned_abs power.units ≤ 16 * 10 ^ 13 }
-    requires other { unsigned_abs other.units ≤ 10 ^ 14 }
-    ensures { result.units ≡ power.units -ℤ other.units }
-{
-    Power::from_units(power.units() - other.units())
+    let less_fcr = report.measured().checked_sub(fcr_power(report));
+    less_fcr.unwrap().checked_sub(report.baseline()).unwrap()
 }
 
 /// The power of a group's FCR energy, where it takes part in FCR.

@@ -45,7 +45,7 @@ impl Participation {
     fn observe(&mut self, sample: u8)
         ensures { self.new ≡ after_sample self.old sample }
     {
-        *self = match (*self, sample as char) {
+        *self = match (*self, char::from(sample)) {
             (Participation::Untouched, '1') => Participation::Whole,
             (Participation::Whole, '1') => Participation::Whole,
             _ => Participation::Broken,
@@ -82,5 +82,5 @@ fn are_readable(samples: &[u8]) -> bool
 fn is_readable(sample: u8) -> bool
     ensures { result ≡ readable sample }
 {
-    matches!(sample as char, '1' | '0' | '-')
+    matches!(char::from(sample), '1' | '0' | '-')
 }

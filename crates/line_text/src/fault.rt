@@ -8,7 +8,7 @@ use quantity::Refusal;
 use std::error::Error;
 use std::fmt;
 
-/// Why a line is not taken, and the column where, counted from 1.
+/// Why a line is not taken, and the column where, counted from 1; 0 is the formats' number for the line as a whole.
 #[derive(Clone, Copy, PartialEq, Eq, Debug)]
 pub struct LineFault {
     pub refusal: Refusal,

@@ -33,7 +33,7 @@ pub fn read_numbered_row(line: &[u8], width: Width, figures: &mut [i64]) -> Resu
     }
     let start = 1 + width.columns();
     let number = read_count(&line[1..start], width).map_err(|_| LineFault::not_in_form(2))?;
-    // Not `map_err`: what holds of the index is proved where it has a name.
+    // `map_err` was tried: what holds of the index is not proved of a closure's.
     match read_row(&line[start..], figures) {
         Ok(()) => Ok(number),
         Err(k) => Err(LineFault::not_in_form(start + 1 + COLUMNS * k)),
@@ -47,7 +47,7 @@ fn has_room(width: Width, figures: usize, out: &[u8]) -> bool
     row_length(width, figures).is_some_and(|length| length <= out.len())
 }
 
-// No struct of the row's parts: each caller names them once, here, and a clause would read them through it.
+// No struct of the row's parts: a caller would name them as often, and each clause would read them through it.
 /// Writes a numbered row over the first bytes of `out`: the letter, the number, the figures and LF.
 /// Refuses a number or a figure that is too wide for its columns (11), then a buffer that is shorter than the row (16); a
 /// refusal leaves every byte as it was.

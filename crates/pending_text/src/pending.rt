@@ -19,7 +19,8 @@ pub struct PendingText {
     ghost within: { array_vec_len text ≤ 676 },
 }
 
-// By hand, since no derive copies a ghost field.
+// By hand: no derive clones a ghost field of a struct that is not `Copy`; without the field, what `append` refuses was not
+// proved.
 impl Clone for PendingText {
     ghost is_clone = { λ text copy. copy ≡ text };
 

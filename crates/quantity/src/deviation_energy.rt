@@ -40,49 +40,46 @@ struct Division {
     rest: u64,
 }
 
-/// `part / whole` to so many decimal places, one digit after another: no product of the two sides is formed.
-fn divide(part: u64, whole: u64, places: usize) -> Division
-    requires part { part < whole }
-    requires whole { whole ≤ 25000000000000 }
-    requires places { places ≤ 12 }
-    ensures exact { part * 10 ^ places ≡ result.digits * whole + result.rest }
-    ensures rest { result.rest < whole }
-    ensures digits { result.digits < 10 ^ places }
-{
-    let mut rest = part;
-    let mut digits: u64 = 0;
-    for _place in 0..places {
-        rest *= 10;
-        digits = digits * 10 + rest / whole;
-        rest %= whole;
+/// A part that is less than the whole, which no activated energy exceeds.
+#[derive(Clone, Copy)]
+struct Portion {
+    part: u64,
+    whole: u64,
+    ghost less: { part < whole },
+    ghost limit: { whole ≤ 25000000000000 },
+}
+
+impl Portion {
+    /// `part / whole` to so many decimal places, one digit after another: no product of the two sides is formed.
+    fn divide(self, places: usize) -> Division
+        requires { places ≤ 12 }
+        ensures exact { self.part * 10 ^ places ≡ result.digits * self.whole + result.rest }
+        ensures rest { result.rest < self.whole }
+        ensures digits { result.digits < 10 ^ places }
+    {
+        let Portion { part, whole } = self;
+        let mut rest = part;
+        let mut digits: u64 = 0;
+        for _place in 0..places {
+            rest *= 10;
+            digits = digits * 10 + rest / whole;
+            rest %= whole;
+        }
+        Division { digits, rest }
     }
-    Division { digits, rest }
-}
 
-/// The places of a share.
-fn share_places(part: u64, whole: u64) -> Division
-    requires part { part < whole }
-    requires whole { whole ≤ 25000000000000 }
-    ensures exact { part * 10 ^ 12 ≡ result.digits * whole + result.rest }
-    ensures rest { result.rest < whole }
-    ensures digits { result.digits < 10 ^ 12 }
-{
-    divide(part, whole, PLACES)
-}
-
-/// The share of a part that is less than the whole.
-fn share_units(part: u64, whole: u64) -> u64
-    requires part { part < whole }
-    requires whole { whole ≤ 25000000000000 }
-    ensures value { result ≡ nearest (part * 10 ^ 12) whole }
-    ensures bound { result ≤ 10 ^ 12 }
-{
-    let found = share_places(part, whole);
-    round_division(
-        u128::from(found.digits),
-        u128::from(found.rest),
-        u128::from(whole),
-    ) as u64
+    /// The units of the share that the part is of the whole.
+    fn share_units(self) -> u64
+        ensures value { result ≡ nearest (self.part * 10 ^ 12) self.whole }
+        ensures bound { result ≤ 10 ^ 12 }
+    {
+        let found = self.divide(PLACES);
+        round_division(
+            u128::from(found.digits),
+            u128::from(found.rest),
+            u128::from(self.whole),
+        ) as u64
+    }
 }
 
 impl Limited<Energy, DeviationLimits> {
@@ -97,7 +94,12 @@ impl Limited<Energy, DeviationLimits> {
         } else if part >= whole {
             Share::from_units(WHOLE)
         } else {
-            Share::from_units(share_units(part as u64, whole as u64) as i64)
+            // Neither is negative, nor above 10^12 in the end: no `From` changes between signs.
+            let portion = Portion {
+                part: part as u64,
+                whole: whole as u64,
+            };
+            Share::from_units(portion.share_units() as i64)
         }
     }
 }

@@ -31,9 +31,6 @@ impl Energy {
         ensures { MatchOption result (Held (power_of self time.number).units → ⊥) (λ p. p ≡ power_of self time.number) }
     {
         let wide = round_wide(scaled(self.units, HOUR), time.number());
-        match i64::try_from(wide) {
-            Ok(units) => Some(Power::from_units(units)),
-            Err(_) => None,
-        }
+        Some(Power::from_units(i64::try_from(wide).ok()?))
     }
 }

@@ -33,7 +33,7 @@ impl Quantity for Energy {
     }
 }
 
-/// The limits of a quantity, in units.
+/// The limits of a quantity, in units. A type for each kind, so that two kinds with the same limits are not one type.
 pub trait Limits: Copy {
     ghost LOW: { ℤ };
 
@@ -53,7 +53,7 @@ pub struct Limited<Q: Quantity, L: Limits> {
     ghost high: { Q.units_of quantity ≤ℤ L.HIGH },
 }
 
-// By hand, since no derive copies a ghost field of a type with parameters.
+// By hand: no derive clones a ghost field of a struct with type parameters.
 impl<Q: Quantity, L: Limits> Clone for Limited<Q, L> {
     ghost is_clone = { λ x y. y ≡ x };
 

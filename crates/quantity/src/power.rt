@@ -1,8 +1,8 @@
 //! Powers.
 
-ghost use Rattle.std.specs.Prelude.{◌≡◌, ◌≤◌, pos, ◌*ℤ◌};
+ghost use Rattle.std.specs.Prelude.{◌≡◌, ◌≤◌, pos, ◌+ℤ◌, ◌-ℤ◌, ◌*ℤ◌, MatchOption};
 ghost use Rattle.quantity.specs.Rounding.{rounded};
-ghost use Rattle.quantity.specs.Quantities.{energy_of, part_of};
+ghost use Rattle.quantity.specs.Quantities.{energy_of, part_of, Held};
 
 use crate::divisor::Divisor;
 use crate::energy::Energy;
@@ -39,6 +39,20 @@ impl Power {
         ensures { result ≡ self.units }
     {
         self.units
+    }
+
+    /// This power and another, or none where 64 bits do not hold it.
+    pub fn checked_add(self, other: Power) -> Option<Power>
+        ensures { MatchOption result (Held (self.units +ℤ other.units) → ⊥) (λ p. p.units ≡ self.units +ℤ other.units) }
+    {
+        Some(Power::from_units(self.units.checked_add(other.units)?))
+    }
+
+    /// This power less another, or none where 64 bits do not hold it.
+    pub fn checked_sub(self, other: Power) -> Option<Power>
+        ensures { MatchOption result (Held (self.units -ℤ other.units) → ⊥) (λ p. p.units ≡ self.units -ℤ other.units) }
+    {
+        Some(Power::from_units(self.units.checked_sub(other.units)?))
     }
 
     /// The energy of this power, when it lasts so long.

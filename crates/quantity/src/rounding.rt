@@ -42,6 +42,7 @@ pub(crate) fn round_wide(n: i128, d: u64) -> i128
     ensures value { result ≡ rounded n d }
     ensures bound { unsigned_abs result ≤ unsigned_abs n }
 {
+    // No `From` changes between signs.
     let size = round_size(n.unsigned_abs(), u128::from(d)) as i128;
     if n < 0 { -size } else { size }
 }

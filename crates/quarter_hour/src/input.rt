@@ -24,19 +24,14 @@ const GIVEN: usize = 2;
 #[derive(Clone, Copy, Debug)]
 pub(crate) struct BadLine {
     line: u32,
-    column: usize,
-    refusal: Refusal,
+    fault: LineFault,
 }
 
 impl fmt::Display for BadLine {
     fn fmt<W: fmt::Write>(&self, f: &mut fmt::Formatter<W>) -> fmt::Result {
-        let BadLine {
-            line,
-            column,
-            refusal,
-        } = self;
-        let number = refusal.number();
-        write!(f, "line {line}, column {column}: refused with {number}")
+        let line = self.line;
+        let fault = self.fault;
+        write!(f, "line {line}, {fault}")
     }
 }
 
@@ -69,6 +64,7 @@ fn terms_of(figures: [Power; TERMS]) -> Option<Terms> {
         floor: Floor::new(procured)?,
         allowance: Allowance::of_bids(BidSum::new(upward)?, BidSum::new(downward)?),
         before: [a, b, c, d, e, f]
+            // The library's `try_map` takes a `Result` alone.
             .try_map(|power| ActivationRequest::new(power).ok_or(()))
             .ok()?,
     })
@@ -96,18 +92,13 @@ impl Input {
     fn fault(&self, fault: LineFault) -> BadLine {
         BadLine {
             line: self.count,
-            column: fault.column,
-            refusal: fault.refusal,
+            fault,
         }
     }
 
     /// What is said of a line whose figures a call refused.
     pub(crate) fn refused(&self, refusal: Refusal) -> BadLine {
-        BadLine {
-            line: self.count,
-            column: 0,
-            refusal,
-        }
+        self.fault(LineFault { refusal, column: 0 })
     }
 
     /// Reads a line of a letter and figures.

@@ -20,7 +20,7 @@ impl fmt::Display for Figure {
 }
 
 /// The direction of a request in a word.
-// Not `Display`: the type is of another crate, which has no words for people.
+// Not `Display`: the words are this program's, and a struct round the direction to give it them would be longer.
 fn name(direction: Direction) -> &'static str {
     match direction {
         Direction::Upward => "upward",

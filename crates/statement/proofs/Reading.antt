@@ -1,5 +1,5 @@
 -- The first fault of what is left, line by line.
-use Rattle.std.proofs.Common.{◌≡◌, ℕ, ◌+◌, List, [], ◌∷◌, Some, None, Ok, Err, Option, sym, refl, ap, ◌∙◌}
+use Rattle.std.proofs.Common.{◌≡◌, ℕ, ◌+◌, List, [], ◌∷◌, Some, None, Ok, Err, Option, sym, refl, ap, ◌∙◌, Result}
 use Rattle.text_parts.specs.declared.line.Line.{Line}
 use Rattle.text_parts.specs.declared.lines.Lines.{Lines}
 use Rattle.text_parts.specs.Lines.{lines_of, rest_of, Advanced}
@@ -71,3 +71,7 @@ finished reader e s = ap (λ (t : List ℕ). fault_from reader.stage (reader.lin
 pub found_err : (A B : Type 0) (place : Option Place) (found : TextFault) → Found {A = A} place (Err found) → Found {A = B} place (Err found)
 found_err A B (Some place) found h = h
 found_err A B None found h = h
+
+-- of one refusal there is one
+pub same_err : {A E : Type 0} {d e : E} → ◌≡◌ {A = Result A E} (Err d) (Err e) → d ≡ e
+same_err is = cc

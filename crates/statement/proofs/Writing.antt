@@ -1,5 +1,5 @@
 -- A statement that is written line by line.
-use Rattle.std.proofs.Common.{◌≡◌, ℕ, ◌+◌, ◌-◌, ◌*◌, ◌^◌, ◌<◌, ◌≤◌, true, false, ◌&&◌, eqb, leb, List, [], ◌∷◌, ◌++◌, length, get_or, take, drop, ℤ, Some, None, Ok, Err, MatchResult, Option, Result, sym, refl, ap, ◌∙◌, inl, inr, arith, Decides}
+use Rattle.std.proofs.Common.{◌≡◌, ℕ, ◌+◌, ◌-◌, ◌*◌, ◌^◌, ◌<◌, ◌≤◌, true, false, ◌&&◌, eqb, leb, List, [], ◌∷◌, ◌++◌, length, get_or, take, drop, ℤ, Some, None, Ok, Err, MatchResult, Option, Result, sym, refl, ap, ◌∙◌, inl, inr, arith, Decides, IsOk, rules}
 use borrow.Rule.Slice.PartMut.{put_mid}
 use Rattle.std.specs.List.{All}
 use Rattle.std.proofs.lemmas.List.Elements.{All-nil, All-cons, All-head, All-tail, All-get_or, All-take}
@@ -83,6 +83,10 @@ module _ (rs : List SettlementRecord) (old : List ℕ) (fits : All Fits rs) (few
 -- nothing that is not refused is refused
 pub never_refused : (why : Option ℕ) (e : Refusal) → why ≡ None → Writes why (Err e) → ⊥
 never_refused why e none h = rw none at h
+
+pub always_written : (why : Option ℕ) (r : Result (Unit {0}) Refusal) → why ≡ None → Writes why r → IsOk r
+always_written why (Ok x) none h = search rules
+always_written why (Err e) none h = absurd (never_refused why e none h)
 
 -- ---- the three parts of a statement
 pub few_records : (o : Opening) (rs : List SettlementRecord) (requests : List ℤ) → Whole o rs requests → length rs ≤ 100

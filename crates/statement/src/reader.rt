@@ -52,7 +52,7 @@ impl<'a> StatementReader<'a> {
         let Some(line) = lines.next() else {
             return self.ended();
         };
-        // Not `map_err`: what holds of the fault is proved where it has a name.
+        // `map_err` was tried: what holds of the fault is not proved of a closure's.
         let turn = match self.stage.take(line.bytes()) {
             Ok(turn) => turn,
             Err(fault) => return Err(TextFault::in_line(line.number(), fault)),

@@ -85,9 +85,7 @@ impl Stage {
             return Err(not_in_turn());
         }
         let content = read_line(line)?;
-        let Some(stage) = self.after(&content) else {
-            return Err(not_in_turn());
-        };
+        let stage = self.after(&content).ok_or(not_in_turn())?;
         Ok(Turn { content, stage })
     }
 }

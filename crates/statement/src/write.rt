@@ -1,6 +1,6 @@
 //! A whole statement, written.
 
-ghost use Rattle.std.specs.Prelude.{◌≡◌, ◌+◌, ◌*◌, ◌≤◌, true, ◌++◌, length, drop, Decides, MatchOption, MatchResult};
+ghost use Rattle.std.specs.Prelude.{◌≡◌, ◌+◌, ◌*◌, ◌≤◌, true, ◌++◌, length, drop, Decides, MatchOption};
 ghost use Rattle.std.specs.List.{All};
 ghost use Rattle.quantity.specs.Refusals.{Answers};
 ghost use Rattle.count_text.specs.Columns.{bytes_after};
@@ -49,7 +49,7 @@ impl<'a> Content<'a> {
             (λ content. (content.opening.now ≡ opening.now) × (content.records.now ≡ records.now)
             × (content.requests.now ≡ requests.now)) }
     {
-        // A usize has no From into a u64.
+        // A usize has no `From` into a u64.
         if records.len() as u64 <= opening.length.quarter_hours()
             && are_records_writable(records)
             && requests.len() == REQUESTS
@@ -73,41 +73,37 @@ impl<'a> Content<'a> {
     }
 
     /// Writes the record lines one after another, numbered from 1, over the first bytes of `out`.
-    /// Refuses nothing, since there is room and the columns hold each number and each figure.
-    fn put_records(&self, out: &mut [u8]) -> Result<(), Refusal>
+    fn put_records(&self, out: &mut [u8])
         requires { 165 * length self.now.records.now ≤ length out.old }
-        ensures { MatchResult result
-            (λ _. out.new ≡ records_text 1 self.now.records.now ++ drop (165 * length self.now.records.now) out.old)
-            (λ _. ⊥) }
+        ensures { out.new ≡ records_text 1 self.now.records.now ++ drop (165 * length self.now.records.now) out.old }
     {
         // By index: what is written through the items of `chunks_exact_mut` is not known behind the loop.
         for (k, record) in self.records.iter().enumerate() {
             let start = RECORD_LENGTH * k;
-            write_record_line(k as u64 + 1, record, &mut out[start..start + RECORD_LENGTH])?;
+            // A usize has no `From` into a u64.
+            write_record_line(
+                k as u64 + 1,
+                record,
+                &mut out[start..start + RECORD_LENGTH],
+            ).unwrap();
         }
-        Ok(())
     }
 
     /// Writes the statement over the first bytes of `out` and answers its length.
-    /// Refuses nothing, since there is room.
-    fn put(&self, out: &mut [u8]) -> Result<usize, Refusal>
+    fn put(&self, out: &mut [u8]) -> usize
         requires { statement_length (length self.now.records.now) ≤ length out.old }
-        ensures { MatchResult result
-            (λ n. (n ≡ statement_length (length self.now.records.now))
-            × (out.new ≡ statement_text self.now.opening.now self.now.records.now self.now.requests.now
-            ++ drop (statement_length (length self.now.records.now)) out.old))
-            (λ _. ⊥) }
+        ensures length { result ≡ statement_length (length self.now.records.now) }
+        ensures bytes { out.new ≡ statement_text self.now.opening.now self.now.records.now self.now.requests.now
+            ++ drop (statement_length (length self.now.records.now)) out.old }
     {
         let tail = OPENING_LENGTH + RECORD_LENGTH * self.records.len();
         let end = tail + TAIL_LENGTH;
-        write_opening_line(self.opening, &mut out[0..OPENING_LENGTH])?;
-        self.put_records(&mut out[OPENING_LENGTH..tail])?;
-        write_tail_line(
-            self.records.len() as u64,
-            self.requests,
-            &mut out[tail..end],
-        )?;
-        Ok(end)
+        write_opening_line(self.opening, &mut out[0..OPENING_LENGTH]).unwrap();
+        self.put_records(&mut out[OPENING_LENGTH..tail]);
+        // A usize has no `From` into a u64.
+        let closed = self.records.len() as u64;
+        write_tail_line(closed, self.requests, &mut out[tail..end]).unwrap();
+        end
     }
 }
 
@@ -123,11 +119,9 @@ pub fn write_statement(
     ensures refused_first { Answers (statement_refusal opening.now records.now requests.now (length out.old)) (λ n. n ≡ length (statement_text opening.now records.now requests.now)) result }
     ensures bytes { out.new ≡ bytes_after (statement_refusal opening.now records.now requests.now (length out.old)) (statement_text opening.now records.now requests.now) out.old }
 {
-    let Some(content) = Content::new(opening, records, requests) else {
-        return Err(Refusal::OutOfRange);
-    };
+    let content = Content::new(opening, records, requests).ok_or(Refusal::OutOfRange)?;
     if out.len() < content.length() {
         return Err(Refusal::BufferTooShort);
     }
-    content.put(out)
+    Ok(content.put(out))
 }

@@ -31,6 +31,7 @@ pub struct SettlementRecord {
 
 impl SettlementRecord {
     /// The record's figures, in the order of its line.
+    // Not `From`, nor is the way back: the order is that of a line, which a name can say and a conversion can't.
     pub fn figures(&self) -> [i64; FIGURES]
         ensures { result ≡ figures_of self.now }
     {

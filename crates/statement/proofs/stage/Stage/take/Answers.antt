@@ -1,8 +1,10 @@
-use Rattle.std.proofs.Common.{◌≡◌, None, sym, refl}
+use Rattle.std.proofs.Common.{◌≡◌, None, sym, refl, ap, ◌∙◌}
 use Rattle.statement.specs.Turns.{stage_after}
+use Rattle.std.specs.Result.{result_ok}
 use Rattle.std.proofs.lemmas.Result.{err_from_is_err_and}
 use Rattle.std.proofs.lemmas.Bool.Decides.{not_from_Decides}
 use Rattle.statement.specs.declared.stage.Turn.{Turn}
+use Rattle.statement.proofs.Reading.{same_err}
 use Rattle.statement.proofs.Turns.{turn-taken, turn_refused, turn_broken}
 use Rattle.statement.proofs.stage.Stage.take.Goals as goal
 
@@ -16,12 +18,16 @@ returns-in_err-content c =
 pub returns : goal.returns
 returns c =
     let is = c.in_ok-content.ensures.read_is_written in
-    let p = turn-taken c.args.self c.in_ok-content.content c.args.line.now is c.in-Some.stage c.in-Some.ensures in
-    record { first_fault = rw p.0 tt; turn = (is, p.1, sym c.in-Some.ensures) }
+    let after = sym (c.ok_or.ensures.ok_part ∙ ap result_ok c.in_ok-stage.was) ∙ c.after.ensures in
+    let p = turn-taken c.args.self c.in_ok-content.content c.args.line.now is c.in_ok-stage.stage after in
+    record { first_fault = rw p.0 tt; turn = (is, p.1, sym after) }
 
-pub returns-in_default : goal.returns-in_default
-returns-in_default c =
+pub returns-in_err-stage : goal.returns-in_err-stage
+returns-in_err-stage c =
+    let p = err_from_is_err_and c.from_residual-in_err-stage.result c.from_residual-in_err-stage.ensures.1 in
+    let gone = c.ok_or.ensures.ok_part ∙ ap result_ok c.in_err-stage.was in
+    let told = rw gone at c.ok_or.ensures.value in
+    let fault : c.in_err-stage.field-0.0 ≡ c.not_in_turn-2.result = same_err (sym c.in_err-stage.was ∙ told) in
     let is = c.in_ok-content.ensures.read_is_written in
-    let none : None ≡ stage_after c.args.self c.in_ok-content.content = (cc c.after.ensures) in
-    let f = turn_refused c.args.self c.in_ok-content.content c.args.line.now is none in
-    record { first_fault = rw (f, c.not_in_turn-in_default.ensures) (refl, refl); turn = tt }
+    let f = turn_refused c.args.self c.in_ok-content.content c.args.line.now is (sym gone ∙ c.after.ensures) in
+    rw (p.1, p.2, fault, f, c.not_in_turn-2.ensures) (record { first_fault = (refl, refl); turn = tt })

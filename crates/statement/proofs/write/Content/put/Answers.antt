@@ -9,4 +9,4 @@ returns c =
     let rs = self.records.now in
     let xs = self.requests.now in
     let put = statement_put o rs xs c.args.out.now c.write_opening_line.new.out c.put_records.new.out c.write_tail_line.new.out (whole_from o rs xs self.whole) c.requires in
-    (refl, put c.in_ok-write_opening_line.ensures.bytes c.in_ok-put_records.ensures c.in_ok-write_tail_line.ensures.bytes)
+    record { length = refl; bytes = put c.write_opening_line.ensures.bytes c.put_records.ensures c.write_tail_line.ensures.bytes }

@@ -1,6 +1,6 @@
 use Rattle.std.proofs.Common.{mod-lt, arith}
 use Rattle.quantity.proofs.Places.{more_digits, more_is, places_fit, place_fits}
-use Rattle.quantity.proofs.deviation_energy.divide.Goals as goal
+use Rattle.quantity.proofs.deviation_energy.Portion.divide.Goals as goal
 
 pub overflow_mul-digits : goal.overflow_mul-digits
 overflow_mul-digits c =
