@@ -1,5 +1,5 @@
 -- What a client that judges given minutes was told, and what it chose.
-use Rattle.std.specs.Prelude.{◌≡◌, ℕ, suc, ◌+◌, ◌*◌, ◌/◌, ◌%◌, cond, List, [], ◌∷◌, ◌++◌, length, Some, None, Option, ◌≢◌, nat_lt, slice_get, MatchOption}
+use Rattle.std.specs.Prelude.{◌≡◌, ℕ, suc, ◌+◌, ◌*◌, ◌/◌, ◌%◌, ◌≤◌, cond, List, [], ◌∷◌, ◌++◌, length, Some, None, Option, ◌≢◌, nat_lt, slice_get, MatchOption}
 use Rattle.account.specs.declared.client.Call.{Call}
 use Rattle.account.specs.declared.client.Call.TheVariants.{Replace, Add, Total}
 use Rattle.account.specs.Histories.{Turn}
@@ -36,8 +36,8 @@ Planned minutes (t ∷ ts) = Plans minutes (length ts) t.call × Planned minutes
 abbrev pub Heard : {R : Type 0} → List (Turn R) → Replay R → Type 0
 Heard history client = Planned client.minutes.items history × (length history ≡ calls_before client.next)
 
--- it chose the next call that was planned, or to stop
+-- it chose the next call that was planned, or to stop, once each minute was told
 abbrev pub Chose : {R : Type 0} → Option (Call R) → List (Turn R) → Replay R → Type 0
 Chose (Some call) history client =
     Plans client.minutes.items (length history) call × Planned client.minutes.items history × (suc (length history) ≡ calls_before client.next)
-Chose None history client = Heard history client
+Chose None history client = Heard history client × (2 * length client.minutes.items ≤ length history)
