@@ -1,7 +1,7 @@
 -- A text at the right of its columns.
-use Rattle.std.proofs.Common.{◌≡◌, ℕ, zero, suc, ◌-◌, ◌^◌, ◌<◌, ◌≤◌, ltb, List, ◌++◌, length, get_or, take, drop, replicate, None, decimal, Option, sym, refl, ap, ◌∙◌, add-zero, arith}
+use Rattle.std.proofs.Common.{◌≡◌, ℕ, zero, suc, ◌+◌, ◌-◌, ◌^◌, ◌<◌, ◌≤◌, ltb, List, ◌++◌, length, get_or, take, drop, replicate, None, decimal, Option, sym, refl, ap, ◌∙◌, add-zero, arith}
 use Rattle.std.proofs.lemmas.Fmt.{length-decimal-le}
-use Rattle.std.proofs.lemmas.List.{get_or-drop, length-append, length-drop, length-replicate, take-append-drop}
+use Rattle.std.proofs.lemmas.List.{get_or-drop, length-append, length-drop, length-replicate, replicate_more, take-append-drop, take_more}
 use Rattle.std.proofs.lemmas.Bool.Decides.{nat_tests}
 use Rattle.count_text.specs.Columns.{at_right, count_text_of, CountIn, write_refusal, Reads}
 use Rattle.count_text.proofs.Decimals.{pow_ten_le, lt_by_length}
@@ -14,6 +14,9 @@ pub not_refused : (a b columns room : ℕ) → a < b → columns ≤ room → wr
 not_refused a b columns room h k = grind (arith, nat_tests)
 
 -- ---- reading
+pub one_more_blank : (text : List ℕ) (i : ℕ) → i < length text → get_or text i 0 ≡ 32 → take i text ≡ replicate i 32 → take (i + 1) text ≡ replicate (i + 1) 32
+one_more_blank text i h b is = rw (take_more text i 0 h, is, b) (replicate_more i 32)
+
 same_split :
     (j k : ℕ) (ds es : List ℕ) → (get_or ds 0 0 ≡ 32 → ⊥) → (get_or es 0 0 ≡ 32 → ⊥) → replicate j 32 ++ ds ≡ replicate k 32 ++ es → (j ≡ k) × (ds ≡ es)
 same_split zero zero ds es p q e = (refl, e)

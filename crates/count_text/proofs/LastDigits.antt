@@ -4,7 +4,7 @@ use Rattle.std.specs.Str.Parse.{AllDigits, digits_value}
 use Rattle.std.specs.Char.{digit_value}
 use Rattle.std.proofs.lemmas.Fmt.{decimal_is_IsNumeral}
 use Rattle.std.proofs.lemmas.Int.Digits.{digits_push, digits_value_push}
-use Rattle.std.proofs.lemmas.List.{append_assoc, drop_all, drop-append-le, drop-set, length_push, take_all}
+use Rattle.std.proofs.lemmas.List.{append_assoc, append-nil, drop_all, drop-append-le, drop-set, length_push, take_all}
 use Rattle.std.proofs.lemmas.Str.Parse.{digit_at}
 use Rattle.std.proofs.lemmas.Bool.Decides.{nat_tests}
 use Rattle.count_text.specs.Columns.{last_digits}
@@ -18,6 +18,9 @@ unfolding last_digits
 last_more w n = rw add-one
 
 -- ---- written from the right: the digits that are left to write stand before those from `at` on
+pub all_left : (n : ℕ) (out : List ℕ) → last_digits (length out) n ≡ last_digits (length out) n ++ drop (length out) out
+all_left n out = let d = drop_all (length out) out (omega arith) in let a = append-nil (last_digits (length out) n) in cc
+
 pub one_less_left :
     (all : List ℕ) (rest at : ℕ) (out : List ℕ) → all ≡ last_digits at rest ++ drop at out → 0 < at → at ≤ length out →
     all ≡ last_digits (at - 1) (rest / 10) ++ drop (at - 1) (set out (at - 1) (48 + rest % 10))

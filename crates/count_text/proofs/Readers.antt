@@ -1,9 +1,9 @@
 -- What is read is what was written.
-use Rattle.std.proofs.Common.{◌≡◌, ℕ, ◌^◌, ◌<◌, ◌≤◌, List, length, get_or, take, Some, None, Ok, decimal, Option, Result, sym, refl, ap, ◌∙◌, arith}
+use Rattle.std.proofs.Common.{◌≡◌, ℕ, ◌+◌, ◌*◌, ◌^◌, ◌<◌, ◌≤◌, List, length, get_or, take, Some, None, Ok, decimal, Option, Result, sym, refl, ap, ◌∙◌, arith}
 use Rattle.std.specs.Option.{ok_or}
 use Rattle.std.specs.Result.{result_ok}
 use Rattle.std.specs.Str.Parse.{AllDigits, digits_value}
-use Rattle.std.proofs.lemmas.Int.Digits.{digits_value-lt}
+use Rattle.std.proofs.lemmas.Int.Digits.{digits_more, digits_value_more, digits_value-lt}
 use Rattle.std.proofs.lemmas.Fmt.{decimal_nonempty, decimal-digits_value, length-decimal-le}
 use Rattle.std.proofs.lemmas.List.{length-take-le}
 use Rattle.std.proofs.lemmas.Str.Parse.{IsNumeralModel, numerals_by_value, tells_digits}
@@ -11,7 +11,7 @@ use Rattle.quantity.specs.declared.refusal.Refusal.{Refusal}
 use Rattle.quantity.specs.declared.refusal.Refusal.TheVariants.{NotInForm}
 use Rattle.count_text.specs.Columns.{PlainIn, FixedIn, Reads, RefusesBy}
 use Rattle.count_text.proofs.Decimals.{no_needless_zero, pow_ten_le, lt_by_length}
-use Rattle.count_text.proofs.LastDigits.{last_are_digits, value_last, digits_are_last, decimal_is_last}
+use Rattle.count_text.proofs.LastDigits.{digit_value_is, last_are_digits, value_last, digits_are_last, decimal_is_last}
 
 pub reads_none : {X : Type 0} (Has : X → List ℕ → Type 0) (text : List ℕ) → ((x : X) → Has x text → ⊥) → Reads Has text None
 reads_none Has text never =
@@ -42,13 +42,18 @@ module _ {X : Type 0} (Has : X → List ℕ → Type 0) (text : List ℕ) (o : O
   pub else_refused : RefusesBy 17 r
   else_refused = rw is (refused_ok_or o)
 
--- ---- room for one digit more
+-- ---- one digit more is read
 module _ (ds : List ℕ) (i n : ℕ) (here : i < length ds) (all : AllDigits 10 (take i ds)) (is : n ≡ digits_value 10 (take i ds)) where
   pub value_fits : length ds ≤ 18 → n < 10 ^ 17
   value_fits few =
       let l : length (take i ds) ≡ i = length-take-le i ds (omega arith) in
       let v : digits_value 10 (take i ds) < 10 ^ i = rw l at (digits_value-lt 10 (take i ds) all) in
       omega (arith, pow_ten_le i 17 (omega arith))
+
+  pub digit_read : (d : ℕ) → d < 10 → get_or ds i 0 ≡ 48 + d → AllDigits 10 (take (i + 1) ds) × (n * 10 + d ≡ digits_value 10 (take (i + 1) ds))
+  digit_read d small byte =
+      let v = digit_value_is (get_or ds i 0) (omega arith) (omega arith) in
+      (digits_more 10 ds i here all (omega arith), omega (arith, digits_value_more 10 ds i here))
 
 -- ---- digits after zeros
 module _ (ds : List ℕ) (n : ℕ) (fixed : FixedIn n ds) where

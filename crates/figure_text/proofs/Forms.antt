@@ -42,6 +42,9 @@ signed_one_line (negsuc n) small = (λ e. omega arith, size_without 10 (suc n) (
 figure_text_one_line : (x : ℤ) → nat_abs x < 10 ^ 18 → AllByRecursion (λ b. b ≡ 10 → ⊥) (figure_text_of x)
 figure_text_one_line x small = All-append (λ b. b ≡ 10 → ⊥) _ (signed_text x) (blanks_without 10 (20 - length (signed_text x)) (λ e. omega arith)) (signed_one_line x small)
 
+pub figure_one_line : (x : ℤ) (text : List ℕ) → FigureIn x text → AllByRecursion (λ b. b ≡ 10 → ⊥) text
+figure_one_line x text h = rw h.1 (figure_text_one_line x h.0)
+
 pub row_one_line : (xs : List ℤ) → Writable xs → AllByRecursion (λ b. b ≡ 10 → ⊥) (row_text xs)
 row_one_line [] all = tt
 row_one_line (x ∷ xs) all =

@@ -1,11 +1,14 @@
 -- One more figure of a row.
-use Rattle.std.proofs.Common.{◌≡◌, ℕ, zero, suc, ◌+◌, ◌*◌, ◌^◌, ◌<◌, ◌≤◌, true, ltb, List, [], ◌∷◌, ◌++◌, length, get_or, take, drop, set, ℤ, pos, nat_abs, Some, None, Decides, sym, refl, ap, ◌∙◌, inl, inr, arith}
-use Rattle.std.proofs.lemmas.List.{append_assoc, take_at, drop_at, take-append-drop, take-take, drop-take, drop-drop, drop-set-lt, get_or-set_same, get_or-set_other, length-take, length-append}
-use Rattle.std.proofs.lemmas.List.Elements.{All-tail}
-use Rattle.std.proofs.lemmas.Bool.{cases_eq, le-leb, lt-leb}
+use Rattle.std.proofs.Common.{◌≡◌, ℕ, zero, suc, ◌+◌, ◌-◌, ◌*◌, ◌^◌, ◌<◌, ◌≤◌, true, ltb, leb, List, [], ◌∷◌, ◌++◌, length, get_or, take, drop, set, ℤ, pos, nat_abs, Some, None, Ok, Err, Decides, Result, sym, refl, ap, ◌∙◌, inl, inr, arith, MatchResult}
+use borrow.Rule.Slice.PartMut.{put_mid}
+use Rattle.std.proofs.lemmas.List.{append_assoc, take_at, drop_at, take-append-drop, take-take, drop-take, drop-drop, drop-set-lt, get_or-set_same, get_or-set_other, flat_map_more, length-take, length-take-le, length-append, take_all, take_more}
+use Rattle.std.proofs.lemmas.List.Elements.{All-tail, All-take}
+use Rattle.std.proofs.lemmas.Bool.{cases_eq, false_from_ne_true, le-leb, leb-true}
 use Rattle.std.proofs.lemmas.Bool.Decides.{Decides-by_and, Decides-ltb}
-use Rattle.count_text.specs.Columns.{bytes_after}
+use Rattle.quantity.specs.declared.refusal.Refusal.{Refusal}
+use Rattle.count_text.specs.Columns.{Writes, bytes_after}
 use Rattle.figure_text.specs.Figures.{figure_text_of, FigureIn}
+use Rattle.figure_text.proofs.Parts.{put_to}
 use Rattle.figure_text.proofs.Wholes.{length_figure}
 use Rattle.figure_text.specs.Rows.{Writable, row_text, writable, row_refusal, figure_field, OneFigure, Filled}
 
@@ -79,13 +82,38 @@ writable_all xs = (writable_decides xs).0
 pub all_writable : (xs : List ℤ) → Writable xs → writable xs ≡ true
 all_writable xs = (writable_decides xs).1
 
+row_more : (xs : List ℤ) (k : ℕ) → k < length xs → row_text (take (k + 1) xs) ≡ row_text (take k xs) ++ figure_text_of (get_or xs k (pos 0))
+row_more xs k lt = ap row_text (take_more xs k (pos 0) lt) ∙ sym (flat_map_more figure_text_of [] (take k xs) (get_or xs k (pos 0)))
+
+-- one more figure over its columns
+pub row_step :
+    (xs : List ℤ) (old out part : List ℕ) (k : ℕ) → Writable xs → k < length xs →
+    out ≡ row_text (take k xs) ++ drop (20 * k) old → part ≡ figure_text_of (get_or xs k (pos 0)) →
+    put_mid (20 * k) (20 * k + 20 - 20 * k) out part ≡ row_text (take (k + 1) xs) ++ drop (20 * (k + 1)) old
+row_step xs old out part k all lt is here =
+    let l : length (row_text (take k xs)) ≡ 20 * k =
+    row_length (take k xs) (All-take (λ x. nat_abs x < 10 ^ 18) k xs all) ∙ ap (λ (n : ℕ). 20 * n) (length-take-le k xs (omega arith)) in
+    let f : length part ≡ 20 * k + 20 - 20 * k = omega (arith, ap length here, length_figure (get_or xs k (pos 0)) (all k (pos 0) lt)) in
+    let n : 20 * k + 20 ≡ 20 * (k + 1) = omega arith in
+    put_to (row_text (take k xs)) old out (20 * k) l is (20 * k + 20) part (omega arith) f ∙ rw (here, row_more xs k lt, n)
+
+pub row_done : (xs : List ℤ) (old out : List ℕ) (k : ℕ) → length xs ≡ k → out ≡ row_text (take k xs) ++ drop (20 * k) old → out ≡ row_text xs ++ drop (20 * length xs) old
+row_done xs old out k e is = rw (take_all k xs (omega arith), ← e) at is
+
 -- why a row is not written
 module _ (xs : List ℤ) (room : ℕ) where
-  pub row_short : Writable xs → room < 20 * length xs → row_refusal xs room ≡ Some 16
-  row_short all short = rw (all_writable xs all, lt-leb (20 * length xs) room short) refl
+  pub row_wide : (Writable xs → ⊥) → row_refusal xs room ≡ Some 11
+  row_wide never = rw (false_from_ne_true (writable xs) (λ e. never (writable_all xs e))) refl
+
+  pub row_short : Writable xs → (20 * length xs ≤ room → ⊥) → row_refusal xs room ≡ Some 16
+  row_short all never = rw (all_writable xs all, false_from_ne_true (leb (20 * length xs) room) (λ e. never (leb-true (20 * length xs) room e))) refl
 
   pub row_fits : Writable xs → 20 * length xs ≤ room → row_refusal xs room ≡ None
   row_fits all le = rw (all_writable xs all, le-leb (20 * length xs) room le) refl
+
+pub row_answered : (r : Result Unit Refusal) (P : Type 0) → MatchResult r (λ _. P) (λ _. ⊥) → Writes None r × P
+row_answered (Ok done) P h = (tt, h)
+row_answered (Err why) P h = absurd h
 
 pub row_bytes : (xs : List ℤ) (old : List ℕ) → Writable xs → row_text xs ++ drop (20 * length xs) old ≡ bytes_after None (row_text xs) old
 row_bytes xs old all = ap (λ (n : ℕ). row_text xs ++ drop n old) (sym (row_length xs all))

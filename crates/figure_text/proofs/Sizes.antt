@@ -1,9 +1,10 @@
 -- The wholes and the decimals of a size.
-use Rattle.std.proofs.Common.{◌≡◌, ℕ, zero, suc, ◌+◌, ◌*◌, ◌/◌, ◌%◌, ◌^◌, ◌<◌, Bool, true, false, ltb, List, ◌∷◌, ◌++◌, length, take, drop, Some, None, decimal, Option, MatchOption, sym, refl, ap, ◌∙◌, mul_assoc, pow-suc, arith}
+use Rattle.std.proofs.Common.{◌≡◌, ℕ, zero, suc, ◌+◌, ◌-◌, ◌*◌, ◌/◌, ◌%◌, ◌^◌, ◌<◌, ◌≤◌, Bool, true, false, ltb, List, ◌∷◌, ◌++◌, length, get_or, take, drop, Some, None, decimal, Option, MatchOption, sym, refl, ap, ◌∙◌, mul_assoc, pow-suc, arith}
+use native.Mathlib.Nat.{sub-zero}
 use Rattle.std.specs.Bool.{then_some}
 use Rattle.std.proofs.lemmas.Bool.Decides.{nat_tests}
 use Rattle.std.proofs.lemmas.Option.{none-some, same_Some}
-use Rattle.std.proofs.lemmas.List.{drop_at, length-append, length-drop, take-append-drop, take_at}
+use Rattle.std.proofs.lemmas.List.{drop_at, drop_more, get_or_at, length-append, length-drop, take-append-drop, take_at, take_rest}
 use Rattle.count_text.specs.Columns.{last_digits, PlainIn, FixedIn, Reads}
 use Rattle.count_text.proofs.LastDigits.{length_last}
 use Rattle.count_text.proofs.Readers.{reads_none, reads_some}
@@ -94,3 +95,46 @@ module _ (text whole behind : List ℕ) (p : ℕ) (front : whole ≡ take p text
           let t : text ≡ decimal a ++ 46 ∷ last_digits 10 q = sym (take-append-drop p text) ∙ rw (← front, ← back, w.1, point, fixed.1) in
           let e : text ≡ size_text n = rw (v, same_last 10 a q) t in
           reads_some SizeIn text n (omega (arith, w.0, fixed.0), e) size_is
+
+-- what stands before the point at p, and behind it
+abbrev before : List ℕ → ℕ → List ℕ
+before text p = take (p - 0) text
+
+abbrev behind : List ℕ → ℕ → List ℕ
+behind text p = take (length text - (p + 1)) (drop (p + 1) text)
+
+module _ (text : List ℕ) (p : ℕ) (long : length text ≡ p + 11) where
+  length_left : length (drop p text) ≡ 11
+  length_left = omega (arith, length-drop p text)
+
+  length_behind : length (behind text p) ≡ 10
+  length_behind = omega (arith, ap length (take_rest text (p + 1)), length-drop (p + 1) text)
+
+  -- the text of a size
+  module _ (n : ℕ) (h : SizeIn n text) where
+    pub point_at : get_or text p 0 ≡ 46
+    point_at =
+        ap (λ (t : List ℕ). get_or t p 0) h.1
+        ∙ get_or_at (decimal (n / 10 ^ 10)) 46 (last_digits 10 n) 0 p (length_whole text (take p text) (drop p text) p refl refl length_left n h)
+
+    plain_before : PlainIn (n / 10 ^ 10) (before text p)
+    plain_before =
+        let w = whole_before text (take p text) (drop p text) p refl refl length_left n h in
+        (omega (arith, w.0), ap (λ (k : ℕ). take k text) (sub-zero p) ∙ w.1)
+
+    part_behind : FixedIn (n % 10 ^ 10) (behind text p)
+    part_behind =
+        let e : drop p text ≡ 46 ∷ behind text p = drop_more text p 0 (omega arith) ∙ rw (point_at, take_rest text (p + 1)) in
+        decimals_behind text (take p text) (drop p text) p refl refl length_left (behind text p) e n h
+
+  pub no_size_without_part : Reads FixedIn (behind text p) None → Reads SizeIn text None
+  no_size_without_part reads = reads_none SizeIn text (λ n h. none-some _ (reads.written_is_read _ (part_behind n h)))
+
+  -- both parts are read
+  module _ (a q : ℕ) (whole : Reads PlainIn (before text p) (Some a)) (part : Reads FixedIn (behind text p) (Some q)) where
+    pub part_lt : q < 10 ^ 10
+    part_lt = rw length_behind at (part.read_is_written q refl).2
+
+    pub no_size_of_nine_digits : 10 ^ 8 ≤ a → Reads SizeIn text None
+    no_size_of_nine_digits wide =
+        reads_none SizeIn text (λ n h. let v : a ≡ n / 10 ^ 10 = same_Some _ _ (whole.written_is_read _ (plain_before n h)) in omega (arith, h.0))

@@ -43,6 +43,10 @@ module _
         let l = length-at_right 9 (decimal n) (omega (arith, digits_le)) in
         rw (e, l) at written
 
+    -- a column is left for the minus of a negative figure
+    pub first_is_blank : get_or new 0 0 ≡ 32
+    first_is_blank = let k : 9 - length (decimal n) ≡ suc (8 - length (decimal n)) = omega (arith, digits_le) in rw (count_written_first, k)
+
     -- the blanks before it
     module _ (b : ℕ) (le : b ≤ length new) (front : take b new ≡ replicate b 32) (next : get_or new b 0 ≡ 32 → ⊥) where
       blanks_are : b ≡ 9 - length (decimal n)
@@ -51,7 +55,7 @@ module _
           same_blanks new b le front next (9 - length (decimal n)) (decimal n ++ drop 9 old) (λ e. omega (arith, first_is_digit n (omega arith)))
           (count_written_first ∙ append_assoc _ (decimal n) (drop 9 old))
 
-      -- a column is left for the minus of a negative figure
+      -- so there is one
       pub some_blank : 0 < b
       some_blank = omega (arith, blanks_are, digits_le)
 

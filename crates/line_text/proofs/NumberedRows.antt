@@ -9,10 +9,10 @@ use Rattle.count_text.proofs.Columns.{length_count}
 use Rattle.count_text.proofs.Forms.{count_number, is_count_lem, is_not_count}
 use Rattle.figure_text.specs.Figures.{FigureIn}
 use Rattle.figure_text.specs.Forms.{is_figure}
-use Rattle.figure_text.specs.Rows.{row_text, figure_field}
+use Rattle.figure_text.specs.Rows.{row_text, figure_field, OneFigure, Filled}
 use Rattle.figure_text.proofs.Forms.{figure_number, is_figure_lem, is_not_figure}
 use Rattle.figure_text.proofs.Rows.{field_suc, row_from, row_field, row_length}
-use Rattle.line_text.specs.NumberedRows.{is_whole, NumberedIn, row_fault, numbered_fault}
+use Rattle.line_text.specs.NumberedRows.{is_whole, NumberedIn, row_fault, numbered_fault, figures_before}
 
 -- ---- the first figure that is not in its form
 
@@ -128,6 +128,16 @@ module _ (w n : ℕ) (line : List ℕ) (whole : is_whole (2 + w + 20 * n) line �
     clear each =
         let t : is_count w (take w (drop 1 line)) ≡ true = is_count_lem w m (take w (drop 1 line)) few count in
         rw (whole, t) (row_clear n (2 + w) (drop (1 + w) line) each)
+
+-- nothing is read before the first figure
+pub nothing_filled : (w column : ℕ) (text : List ℕ) (places : List ℤ) → column ≤ 2 → Filled (figures_before w column) text places places
+nothing_filled w column text places le =
+    let z : figures_before w column ≡ 0 = omega arith in
+    let none : (i : ℕ) → i < figures_before w column → OneFigure (get_or places i (pos 0)) (figure_field i text) = λ i lt. absurd (let q : ⊥ = omega arith in q) in
+    (none, refl)
+
+pub before_figure : (w k : ℕ) → figures_before w (1 + w + 1 + 20 * k) ≡ k
+before_figure w k = let e : 1 + w + 1 + 20 * k - (2 + w) ≡ 20 * k = omega arith in rw e (omega arith)
 
 -- the parts of a line as its reader cuts them
 pub count_part : (w r : ℕ) (line : List ℕ) → r ≡ w → take (1 + r - 1) (drop 1 line) ≡ take w (drop 1 line)

@@ -1,8 +1,8 @@
 -- The first line of a text and the lines after it.
-use Rattle.std.proofs.Common.{◌≡◌, ℕ, zero, suc, ◌+◌, ◌-◌, ◌<◌, false, eqb, List, [], ◌∷◌, ◌++◌, length, take, drop, min, sym, refl, ap, ◌∙◌, add-one, arith}
-use Rattle.std.proofs.lemmas.List.{take_rest}
+use Rattle.std.proofs.Common.{◌≡◌, ℕ, zero, suc, ◌+◌, ◌-◌, ◌<◌, ◌≤◌, Bool, true, false, cond, eqb, List, [], ◌∷◌, ◌++◌, length, get_or, take, drop, min, sym, refl, ap, ◌∙◌, add-one, arith}
+use Rattle.std.proofs.lemmas.List.{at_drop_more, at_drop_all, drop-drop, take_rest}
 use Rattle.std.proofs.Math.Seq.{drop-append_seam}
-use Rattle.std.proofs.lemmas.Bool.{ne_eqb, cond_both, cond-false}
+use Rattle.std.proofs.lemmas.Bool.{eq-eqb, ne_eqb, cond_both, cond-false}
 use Rattle.std.specs.List.{flat_map, AllByRecursion, AllWithin, IsFirstMatchOrLen}
 use Rattle.std.specs.Io.BufRead.{take_through}
 use Rattle.text_parts.specs.Lines.{begun, lines_of}
@@ -63,6 +63,74 @@ module _
   pub lines_then_left :
       0 < length text → lines_of text ≡ line ∷ lines_of (take (length text - length line) (drop (length line) text))
   lines_then_left some = rw (cut.0, cut.1, ← left) at (lines_follow text i ends some)
+
+-- ---- the length of the first line, byte by byte
+one_first : (t : Bool) (b : ℕ) (xs : List ℕ) → length (cond t (b ∷ []) (b ∷ xs)) ≡ suc (length (cond t [] xs))
+one_first true b xs = refl
+one_first false b xs = refl
+
+module _ (text : List ℕ) (i : ℕ) where
+  step :
+      i < length text →
+      length (take_through 10 (drop i text)) ≡ suc (length (cond (eqb (get_or text i 0) 10) [] (take_through 10 (drop (i + 1) text))))
+  step lt = at_drop_more (λ (t : List ℕ). length (take_through 10 t)) text i 0 lt ∙ one_first (eqb (get_or text i 0) 10) _ _
+
+  pub front_end : i < length text → get_or text i 0 ≡ 10 → length (take_through 10 (drop i text)) ≡ 1
+  front_end lt e = let t = eq-eqb _ _ e in step lt ∙ rw t
+
+  pub front_more :
+      i < length text → (get_or text i 0 ≡ 10 → ⊥) →
+      length (take_through 10 (drop i text)) ≡ length (take_through 10 (drop (i + 1) text)) + 1
+  front_more lt n = let t = ne_eqb _ _ n in step lt ∙ rw t (omega arith)
+
+  pub front_all : length text ≤ i → length (take_through 10 (drop i text)) ≡ 0
+  front_all le = at_drop_all (λ (t : List ℕ). length (take_through 10 t)) text i le
+
+-- ---- the first line as a part
+begins : (t : Bool) (b : ℕ) (bs xs : List ℕ) → take (length xs) bs ≡ xs → take (length (cond t (b ∷ []) (b ∷ xs))) (b ∷ bs) ≡ cond t (b ∷ []) (b ∷ xs)
+begins true b bs xs e = refl
+begins false b bs xs e = ap (λ (t : List ℕ). b ∷ t) e
+
+-- a line is the front of its text
+pub line_front : (text : List ℕ) → take (length (take_through 10 text)) text ≡ take_through 10 text
+line_front [] = refl
+line_front (b ∷ bs) = begins (eqb b 10) b bs (take_through 10 bs) (line_front bs)
+
+-- the part of a line's length is the line
+pub line_part :
+    (n : ℕ) (rest whole : List ℕ) → n ≡ length (take_through 10 rest) → rest ≡ whole →
+    (take (n - 0) rest ≡ take_through 10 whole) × (length (take (n - 0) rest) ≡ n)
+line_part n rest whole e f =
+    let z : n - 0 ≡ length (take_through 10 rest) = omega arith in
+    let t : take (n - 0) rest ≡ take_through 10 rest = rw z (line_front rest) in
+    (t ∙ ap (take_through 10) f, ap length t ∙ sym e)
+
+-- ---- one line after another
+split :
+    (t : Bool) (b : ℕ) (bs line : List ℕ) → lines_of bs ≡ line ∷ lines_of (drop (length line) bs) →
+    cond t ((b ∷ []) ∷ lines_of bs) (begun b (lines_of bs)) ≡ cond t (b ∷ []) (b ∷ line) ∷ lines_of (drop (length (cond t (b ∷ []) (b ∷ line))) (b ∷ bs))
+split true b bs line e = refl
+split false b bs line e = ap (λ (ls : List (List ℕ)). begun b ls) e
+
+alone : (t : Bool) (b : ℕ) → cond t ((b ∷ []) ∷ []) (begun b []) ≡ cond t (b ∷ []) (b ∷ []) ∷ lines_of (drop (length (cond t (b ∷ []) (b ∷ []))) (b ∷ []))
+alone true b = refl
+alone false b = refl
+
+-- the lines of a text are its first one and those of what follows it
+pub lines_step : (text : List ℕ) → 0 < length text → lines_of text ≡ take_through 10 text ∷ lines_of (drop (length (take_through 10 text)) text)
+lines_step [] some = absurd (let q : ⊥ = omega arith in q)
+lines_step (b ∷ []) some = alone (eqb b 10) b
+lines_step (b ∷ (c ∷ cs)) some = split (eqb b 10) b (c ∷ cs) (take_through 10 (c ∷ cs)) (lines_step (c ∷ cs) (omega arith))
+
+-- the text before and after a line of n bytes
+pub lines_from :
+    (n at next : ℕ) (rest text same line : List ℕ) → 0 < length rest → n ≡ length (take_through 10 rest) → rest ≡ drop at text → next ≡ at + n → same ≡ text →
+    line ≡ take_through 10 (drop at text) → lines_of (drop at text) ≡ line ∷ lines_of (drop next same)
+lines_from n at next rest text same line some e f g h is =
+    let s = lines_step rest some in
+    let d : drop (length (take_through 10 rest)) rest ≡ drop next same = rw (← e, f, drop-drop, g, h) in
+    let t : lines_of rest ≡ take_through 10 rest ∷ lines_of (drop next same) = rw d at s in
+    rw is (rw f at t)
 
 -- a line that ends with its only LF is the first of what it begins
 pub lines-first :
