@@ -6,8 +6,8 @@ ghost use Rattle.account.specs.Changes.{Judged};
 ghost use Rattle.account.specs.Accounts.{judged, add_refusal_of, Holds, HoldsAfter};
 
 use crate::state::Account;
-use bands::{BandRule, distance};
-use quantity::{Power, Refusal};
+use bands::{BandRule, FIGURE_LIMIT, distance};
+use quantity::{Power, Refusal, is_within};
 
 /// The figures that an account takes: the minutes of a quarter hour.
 const FIGURES: u8 = 15;
@@ -41,11 +41,15 @@ impl<R: BandRule + Drop> Account<R> {
         ensures rule { self.new.rule ≡ self.old.rule }
         ensures holds { (js : List Judged) → Holds js self.old.total.units self.old.count → HoldsAfter (add_refusal_of figure.units self.old.count) (judged (R.lowest self.old.rule) (R.highest self.old.rule) figure.units) js self.new.total.units self.new.count }
     {
-        let far = distance(&self.rule, figure)?;
+        // The check of `distance` stands here too: a full account asks its rule for nothing.
+        if !is_within(figure.units(), -FIGURE_LIMIT, FIGURE_LIMIT) {
+            return Err(Refusal::OutOfRange);
+        }
         if self.count >= FIGURES {
             return Err(Refusal::PlaceTaken);
         }
-        self.total = self.total.checked_add(far).unwrap();
+        let far = distance(&self.rule, figure)?;
+        self.total = Power::from_units(self.total.units() + far.units());
         self.count += 1;
         Ok(())
     }

@@ -56,3 +56,10 @@ highest_found window q h = ap (λ (q : ActivationRequest). q.power.units) h.2 �
 
 pub lowest_found : (window : List ActivationRequest) (q : ActivationRequest) → (place : ℕ) × FirstForemost (λ x y. le_z x.power.units y.power.units) window place × (q ≡ get_or window place q) → q.power.units ≡ least (request_units window)
 lowest_found window q h = ap (λ (q : ActivationRequest). q.power.units) h.2 ∙ lowest_is window h.0 q h.1.in_run (λ k lt. h.1.foremost k q lt)
+
+pub least-below-greatest : (xs : List ℤ) → least xs ≤ℤ greatest xs
+least-below-greatest [] = omega (arith, ints)
+least-below-greatest (x ∷ xs) =
+    let low : least (x ∷ xs) ≤ℤ x = (folded_min_z_bounds x xs _ refl).0 in
+    let high : x ≤ℤ greatest (x ∷ xs) = (folded_max_z_bounds x xs _ refl).0 in
+    omega (arith, ints)

@@ -21,7 +21,7 @@ pub trait Order {
 
 /// An order turned round: what stands first in the one stands last in the other.
 pub struct Reversed<O> {
-    order: PhantomData<O>,
+    pub order: PhantomData<O>,
 }
 
 impl<O: Order> Order for Reversed<O> {

@@ -30,13 +30,13 @@ pub(crate) fn gap<R: BandRule>(rule: &R, figure: Power) -> Power
     if let Some(low) = rule.low() {
         let low = low.quantity();
         if figure < low {
-            return low.checked_sub(figure).unwrap();
+            return Power::from_units(low.units() - figure.units());
         }
     }
     if let Some(high) = rule.high() {
         let high = high.quantity();
         if high < figure {
-            return figure.checked_sub(high).unwrap();
+            return Power::from_units(figure.units() - high.units());
         }
     }
     Power::from_units(0)

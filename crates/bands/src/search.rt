@@ -16,13 +16,11 @@ fn is_before<O: Order>(thing: &O::Thing, other: &O::Thing) -> bool
 pub fn first_foremost<O: Order>(run: &[O::Thing]) -> Option<usize>
     ensures { MatchOption result (length run.now ≡ 0) (λ place. FirstForemost O.ahead run.now place) }
 {
-    if run.is_empty() {
-        return None;
-    }
+    let (_, rest) = run.split_first()?;
     let mut best = 0;
-    for (i, thing) in run.iter().enumerate() {
+    for (i, thing) in rest.iter().enumerate() {
         if is_before::<O>(thing, &run[best]) {
-            best = i;
+            best = i + 1;
         }
     }
     Some(best)

@@ -12,6 +12,7 @@ use crate::request_orders::{HighestFirst, LowestFirst};
 use crate::rule::BandRule;
 use crate::search::first_foremost;
 use activation::ActivationRequest;
+use quantity::Power;
 
 /// The requests of a window: this minute's and those of the six minutes before it.
 pub const WINDOW: usize = 7;
@@ -38,16 +39,16 @@ fn foremost_of<O: Order<Thing = ActivationRequest>>(
 fn lower_end(request: ActivationRequest, allowance: Allowance) -> BandEnd
     ensures { result.quantity.units ≡ request.power.units -ℤ allowance.power.units }
 {
-    let end = request.power().checked_sub(allowance.power());
-    BandEnd::new(end.unwrap()).unwrap()
+    let units = request.power().units() - allowance.power().units();
+    BandEnd::new(Power::from_units(units)).unwrap()
 }
 
 /// A request and the allowance.
 fn upper_end(request: ActivationRequest, allowance: Allowance) -> BandEnd
     ensures { result.quantity.units ≡ request.power.units +ℤ allowance.power.units }
 {
-    let end = request.power().checked_add(allowance.power());
-    BandEnd::new(end.unwrap()).unwrap()
+    let units = request.power().units() + allowance.power().units();
+    BandEnd::new(Power::from_units(units)).unwrap()
 }
 
 impl ToleranceBand {

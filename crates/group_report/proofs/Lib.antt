@@ -1,2 +1,4 @@
+pub mod Checks
+pub mod Same
 pub mod Samples
 pub mod Sums

@@ -69,8 +69,8 @@ fn net_power(report: GroupReport) -> Power
     ensures value { result.units ≡ net_power_of report }
     ensures limit { unsigned_abs result.units ≤ 26 * 10 ^ 13 }
 {
-    let less_fcr = report.measured().checked_sub(fcr_power(report));
-    less_fcr.unwrap().checked_sub(report.baseline()).unwrap()
+    let less_fcr = report.measured().units() - fcr_power(report).units();
+    Power::from_units(less_fcr - report.baseline().units())
 }
 
 /// The power of a group's FCR energy, where it takes part in FCR.

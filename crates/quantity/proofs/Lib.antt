@@ -1,3 +1,4 @@
 pub mod Quotients
 pub mod Places
 pub mod Lists
+pub mod Same

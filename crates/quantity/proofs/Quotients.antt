@@ -2,11 +2,19 @@
 use Rattle.std.proofs.Common.{◌≡◌, ℕ, zero, suc, ◌+◌, ◌*◌, ◌^◌, ◌<◌, ◌≤◌, ℤ, pos, negsuc, ◌-ℤ◌, ◌*ℤ◌, neg_ℤ, nat_abs, sym, refl, ap, suc-mul, add-mul, lt_of_mul-lt-mul_right, mul-le-mul_left, div-mul-le_self, mul_left_comm, arith, w64, SFits}
 use native.Mathlib.Nat.{div-eq_of_lt-le, lt-div-mul-add}
 use lib.IntN.{neg_ℤ-neg_ℤ}
+use mir.Syntax.{w128}
 use Rattle.std.proofs.lemmas.Int.{ints}
 use Rattle.quantity.specs.Rounding.{nearest, rounded, Nearest}
 
 -- ---- from a quotient and a remainder
 module _ (n d q r : ℕ) (is : n ≡ q * d + r) (small : r < d) where
+  pub nearest_up : d ≤ 2 * r → nearest n d ≡ q + 1
+  nearest_up h =
+      let p : q * (2 * d) ≡ 2 * (q * d) = mul_left_comm q 2 d in
+      let a : (q + 1) * (2 * d) ≡ q * (2 * d) + 1 * (2 * d) = add-mul q 1 (2 * d) in
+      let b : (q + 1 + 1) * (2 * d) ≡ (q + 1) * (2 * d) + 1 * (2 * d) = add-mul (q + 1) 1 (2 * d) in
+      div-eq_of_lt-le (2 * d) (omega arith) (omega arith)
+
   pub nearest_down : 2 * r < d → nearest n d ≡ q
   nearest_down h =
       let p : q * (2 * d) ≡ 2 * (q * d) = mul_left_comm q 2 d in
@@ -95,6 +103,19 @@ nearest_alone (negsuc n) d (negsuc k) h near =
     ap (λ z. neg_ℤ (pos z)) (size_alone (suc n) (suc k) d h a b)
 
 -- ---- the size of a product
+pub nat_abs_scaled : (z : ℤ) (m : ℕ) → nat_abs (z *ℤ pos m) ≡ nat_abs z * m
+nat_abs_scaled (pos n) m = refl
+nat_abs_scaled (negsuc n) m = nat_abs-neg (pos (suc n * m))
+
+pub scaled_small : (z : ℤ) (m : ℕ) → SFits w64 z → m < 2 ^ 8 → nat_abs (z *ℤ pos m) < 2 ^ 72
+scaled_small z m fits h =
+    let size : nat_abs z ≤ 2 ^ 63 = omega (arith, ints) in
+    let a : nat_abs z * m ≤ nat_abs z * 255 = mul-le-mul_left (nat_abs z) (omega arith) in
+    rw nat_abs_scaled (omega arith)
+
+pub wide_fits : (z : ℤ) → nat_abs z < 2 ^ 72 → SFits w128 z
+wide_fits z h = omega (arith, ints)
+
 -- ---- a quotient by sixty of at most sixty times a figure fits where the figure did
 nearest-within : (n b d : ℕ) → 0 < d → n ≤ b * d → nearest n d ≤ b
 nearest-within n b d h le =
@@ -107,8 +128,28 @@ nearest-within n b d h le =
 pub nearest_less : (n d : ℕ) → 0 < d → nearest n d ≤ n
 nearest_less n d h = let le : n * 1 ≤ n * d = mul-le-mul_left n h in nearest-within n n d h (omega arith)
 
+rounded-neg : (k d : ℕ) → 0 < d → rounded (neg_ℤ (pos k)) d ≡ neg_ℤ (pos (nearest k d))
+rounded-neg zero d h =
+    let none : nearest 0 d ≡ 0 = nearest_down 0 d 0 0 (omega arith) h (omega arith) in
+    rw none
+rounded-neg (suc k) d h = refl
+
+pub rounded-within : (z : ℤ) (b d : ℕ) → 0 < d → nat_abs z ≤ b * d → nat_abs (rounded z d) ≤ b
+rounded-within (pos n) b d h le = nearest-within n b d h le
+rounded-within (negsuc n) b d h le = rw (nat_abs-neg (pos (nearest (suc n) d))) (nearest-within (suc n) b d h le)
+
 neg_fits : (k n : ℕ) → k ≤ suc n → n < 2 ^ 63 → SFits w64 (neg_ℤ (pos k))
 neg_fits k n le h = omega (arith, ints)
+
+pub lasting_fits : (z : ℤ) (m : ℕ) → SFits w64 z → m ≤ 60 → SFits w64 (rounded (z *ℤ pos m) 60)
+lasting_fits (pos n) m fits h =
+    let le : n * m ≤ n * 60 = mul-le-mul_left n h in
+    let w = nearest-within (n * m) n 60 (omega arith) le in
+    omega (arith, ints)
+lasting_fits (negsuc n) m fits h =
+    let le : suc n * m ≤ suc n * 60 = mul-le-mul_left (suc n) h in
+    let w = nearest-within (suc n * m) (suc n) 60 (omega arith) le in
+    rw (rounded-neg (suc n * m) 60 (omega arith)) (neg_fits (nearest (suc n * m) 60) n w (omega (arith, ints)))
 
 pub rounded_fits : (z : ℤ) (d : ℕ) → 0 < d → SFits w64 z → SFits w64 (rounded z d)
 rounded_fits (pos n) d h fits =

@@ -1,6 +1,7 @@
 //! Quantities within limits.
 
 ghost use Rattle.std.specs.Prelude.{◌≡◌, ℤ, ◌≤ℤ◌, MatchOption, ⊤};
+ghost use Rattle.quantity.specs.Quantities.{Held};
 
 use crate::energy::Energy;
 use crate::power::Power;
@@ -67,7 +68,8 @@ impl<Q: Quantity, L: Limits> Clone for Limited<Q, L> {
 impl<Q: Quantity, L: Limits> Limited<Q, L> {
     /// None where the quantity lies outside its limits.
     pub fn new(quantity: Q) -> Option<Limited<Q, L>>
-        ensures { MatchOption result (L.LOW ≤ℤ Q.units_of quantity → Q.units_of quantity ≤ℤ L.HIGH → ⊥) (λ l. l.quantity ≡ quantity) }
+        ensures value { MatchOption result (L.LOW ≤ℤ Q.units_of quantity → Q.units_of quantity ≤ℤ L.HIGH → ⊥) (λ l. l.quantity ≡ quantity) }
+        ensures held { Held (Q.units_of quantity) }
     {
         if !is_within(quantity.in_units(), L::LOW, L::HIGH) {
             return None;
