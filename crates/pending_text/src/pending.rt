@@ -1,10 +1,6 @@
 //! Pending text.
 
-ghost use Rattle.std.specs.Prelude.{◌≡◌, ◌≤◌, [], ⊤};
-ghost use Rattle.arrayvec.specs.ArrayVec.{array_vec_len};
-
-use arrayvec::ArrayVec;
-use std::alloc::AllocError;
+ghost use Rattle.std.specs.Prelude.{◌≡◌, ◌≤◌, replicate};
 
 /// A block of a statement: text is handed out by so many bytes, but for the day's last.
 pub const BLOCK: usize = 512;
@@ -13,41 +9,30 @@ pub const BLOCK: usize = 512;
 pub const CAPACITY: usize = 676;
 
 /// Text that was written and not yet handed out, from the first byte.
-#[derive(Drop)]
+// An array and its length, and no `ArrayVec`: that is never `Copy`, and leaves the bytes that were taken where they were.
+#[derive(Clone, Copy)]
 pub struct PendingText {
-    pub(crate) text: ArrayVec<u8, CAPACITY>,
-    ghost within: { array_vec_len text ≤ 676 },
-}
-
-// By hand: no derive clones a ghost field of a struct that is not `Copy`; without the field, what `append` refuses was not
-// proved.
-impl Clone for PendingText {
-    ghost is_clone = { λ text copy. copy ≡ text };
-
-    ghost is_infallible = { λ _. ⊤ };
-
-    fn clone(&self) -> Result<PendingText, AllocError> {
-        Ok(PendingText {
-            text: self.text.clone()?,
-        })
-    }
+    pub(crate) bytes: [u8; CAPACITY],
+    pub(crate) length: usize,
+    ghost within: { length ≤ 676 },
 }
 
 impl PendingText {
     /// Nothing is pending.
     pub fn new() -> PendingText
-        ensures bytes { result.text.items ≡ [] }
-        ensures length { array_vec_len result.text ≡ 0 }
+        ensures bytes { result.bytes ≡ replicate 676 0 }
+        ensures length { result.length ≡ 0 }
     {
         PendingText {
-            text: ArrayVec::new(),
+            bytes: [0; CAPACITY],
+            length: 0,
         }
     }
 
     /// How many bytes are pending.
     pub fn length(&self) -> usize
-        ensures { result ≡ array_vec_len self.now.text }
+        ensures { result ≡ self.now.length }
     {
-        self.text.len()
+        self.length
     }
 }

@@ -1,5 +1,5 @@
 -- One line more of a statement that is being read.
-use Rattle.std.proofs.Common.{◌≡◌, ℕ, ◌+◌, ◌<◌, Bool, true, false, cond, eqb, ltb, List, [], ◌∷◌, ◌++◌, length, ℤ, Some, None, sym, refl, ap, ◌∙◌, arith}
+use Rattle.std.proofs.Common.{◌≡◌, ℕ, ◌+◌, ◌<◌, Bool, true, false, cond, eqb, ltb, List, [], ◌∷◌, ◌++◌, length, take, ℤ, Some, None, sym, refl, ap, ◌∙◌, arith}
 use Rattle.std.proofs.lemmas.List.Elements.{All-nil, All-push, All-same}
 use Rattle.std.proofs.lemmas.List.{append_assoc, append-nil, length_push}
 use Rattle.std.proofs.lemmas.Bool.{and_parts, eqb-true, ltb-true}
@@ -11,6 +11,7 @@ use Rattle.statement_lines.specs.Kinds.{LineIn}
 use Rattle.statement_lines.specs.Openings.{quarter_hours_of, opening_text}
 use Rattle.statement_lines.specs.Records.{record_text, tail_text}
 use Rattle.statement.specs.declared.read.Draft.{Draft}
+use Rattle.statement.specs.declared.records.Records.{Records}
 use Rattle.statement.specs.declared.stage.Stage.{Stage}
 use Rattle.statement.specs.declared.stage.Stage.TheVariants.{BeforeOpening, InRecords, AfterTail}
 use Rattle.statement.specs.Drafts.{drafted, Added, Begun, Done, Draws}
@@ -31,7 +32,7 @@ came true then next e = (refl, let f : next ≡ then = cc in f)
 came false then next e = absurd (never next e)
 
 same_drafted : (d e : Draft) → e.records ≡ d.records → drafted e ≡ drafted d
-same_drafted d e same = cc
+same_drafted d e same = ap (λ (r : Records). take r.count r.list) same
 
 opened_first : (o : OpeningOf) (d e : Draft) (front line : List ℕ) → Draws BeforeOpening d front → Added d (Opening o) e → line ≡ opening_text o → Begun (quarter_hours_of o.length) 0 e (front ++ line)
 opened_first o d e front line before added is =

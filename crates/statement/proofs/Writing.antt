@@ -3,7 +3,7 @@ use Rattle.std.proofs.Common.{◌≡◌, ℕ, ◌+◌, ◌-◌, ◌*◌, ◌^◌
 use borrow.Rule.Slice.PartMut.{put_mid}
 use Rattle.std.specs.List.{All}
 use Rattle.std.proofs.lemmas.List.Elements.{All-nil, All-cons, All-head, All-tail, All-get_or, All-take}
-use Rattle.std.proofs.lemmas.List.{append_assoc, append-nil, drop_all, length-append, length-drop, length-take-le, take_more}
+use Rattle.std.proofs.lemmas.List.{append_assoc, append-nil, drop_all, length-append, length-drop, length-take-le, take_all, take_more}
 use Rattle.std.proofs.lemmas.Bool.{and_from, and_parts, cases_Bool, eq-eqb, eqb-true, le-leb, leb-true}
 use Rattle.count_text.specs.Columns.{Writes, bytes_after}
 use Rattle.quantity.specs.declared.refusal.Refusal.{Refusal}
@@ -80,6 +80,11 @@ module _ (rs : List SettlementRecord) (old : List ℕ) (fits : All Fits rs) (few
         let m : 165 * k + 165 ≡ 165 * (k + 1) = omega arith in
         put ∙ ap (λ (t : List ℕ). t ++ drop (165 * k + 165) old) more ∙ ap (λ (p : ℕ). records_text 1 (take (k + 1) rs) ++ drop p old) m
 
+  pub records_done : (k : ℕ) (out : List ℕ) → length rs ≤ k → k ≤ length rs → out ≡ records_text 1 (take k rs) ++ drop (165 * k) old → out ≡ records_text 1 rs ++ drop (165 * length rs) old
+  records_done k out ge le is =
+      let e : k ≡ length rs = omega arith in
+      is ∙ ap (λ (l : List SettlementRecord). records_text 1 l ++ drop (165 * k) old) (take_all k rs (omega arith)) ∙ ap (λ (p : ℕ). records_text 1 rs ++ drop (165 * p) old) e
+
 -- nothing that is not refused is refused
 pub never_refused : (why : Option ℕ) (e : Refusal) → why ≡ None → Writes why (Err e) → ⊥
 never_refused why e none h = rw none at h
@@ -92,7 +97,7 @@ always_written why (Err e) none h = absurd (never_refused why e none h)
 pub few_records : (o : Opening) (rs : List SettlementRecord) (requests : List ℤ) → Whole o rs requests → length rs ≤ 100
 few_records o rs requests whole = omega (arith, whole.within, hundred o.length)
 
-opening_part : (o : Opening) (old opening : List ℕ) → 12 ≤ length old → opening ≡ bytes_after (opening_refusal (length (take 12 old))) (opening_text o) (take 12 old) → opening ≡ opening_text o
+pub opening_part : (o : Opening) (old opening : List ℕ) → 12 ≤ length old → opening ≡ bytes_after (opening_refusal (length (take 12 old))) (opening_text o) (take 12 old) → opening ≡ opening_text o
 opening_part o old opening room e =
     let long = length-take-le 12 old room in
     let fits : leb 12 (length (take 12 old)) ≡ true = le-leb 12 (length (take 12 old)) (omega arith) in
@@ -101,6 +106,45 @@ opening_part o old opening room e =
 tail_length : (o : Opening) (rs : List SettlementRecord) (requests : List ℤ) → Whole o rs requests → length (tail_text (length rs) requests) ≡ 125
 tail_length o rs requests whole =
     numbered_length 84 3 (length rs) requests (omega arith) (omega arith) (omega (arith, few_records o rs requests whole)) (whole.requests_fit) ∙ (let e : 2 + 3 + 20 * length requests ≡ 125 = omega (arith, whole.six) in e)
+
+module _ (o : Opening) (rs : List SettlementRecord) (requests : List ℤ) (old opening records : List ℕ) (whole : Whole o rs requests) (room : statement_length (length rs) ≤ length old) where
+  module _ (opened : opening ≡ opening_text o) where
+    opening_long : length opening ≡ 12
+    opening_long = ap length opened ∙ opening_length o
+
+    pub records_part : records ≡ records_text 1 rs ++ drop (165 * length rs) (take (12 + 165 * length rs - 12) (drop 12 (opening ++ drop 12 old))) → records ≡ records_text 1 rs
+    records_part e =
+        let held = part_holds 12 (12 + 165 * length rs) (165 * length rs) opening old (opening ++ drop 12 old) refl (omega arith) opening_long refl in
+        let none : drop (165 * length rs) (take (12 + 165 * length rs - 12) (drop 12 (opening ++ drop 12 old))) ≡ [] = drop_all (165 * length rs) _ (omega (arith, held)) in
+        e ∙ ap (λ (t : List ℕ). records_text 1 rs ++ t) none ∙ append-nil (records_text 1 rs)
+
+    module _ (filled : records ≡ records_text 1 rs) where
+      records_long : length records ≡ 165 * length rs
+      records_long = ap length filled ∙ records_length 1 rs (omega (arith, few_records o rs requests whole)) whole.records_fit
+
+      after_records : put_mid 12 (12 + 165 * length rs - 12) (opening ++ drop 12 old) records ≡ (opening ++ records) ++ drop (12 + 165 * length rs) old
+      after_records =
+          let e : 12 + 165 * length rs - 12 ≡ 165 * length rs = omega arith in
+          ap (λ (p : ℕ). put_mid 12 p (opening ++ drop 12 old) records) e ∙ put_next opening old (opening ++ drop 12 old) 12 opening_long refl (165 * length rs) records records_long
+
+      front_long : length (opening ++ records) ≡ 12 + 165 * length rs
+      front_long = length-append opening records ∙ (let e : length opening + length records ≡ 12 + 165 * length rs = omega (arith, opening_long, records_long) in e)
+
+      pub tail_not_refused : tail_refusal (length rs) requests (length (take (12 + 165 * length rs + 125 - (12 + 165 * length rs)) (drop (12 + 165 * length rs) (put_mid 12 (12 + 165 * length rs - 12) (opening ++ drop 12 old) records)))) ≡ None
+      tail_not_refused =
+          let held = part_holds (12 + 165 * length rs) (12 + 165 * length rs + 125) 125 (opening ++ records) old (put_mid 12 (12 + 165 * length rs - 12) (opening ++ drop 12 old) records) refl (omega arith) front_long after_records in
+          let six : eqb (length requests) 6 ≡ true = eq-eqb (length requests) 6 whole.six in
+          rw six (numbered_fits 3 (length rs) requests _ (omega (arith, few_records o rs requests whole)) whole.requests_fit (omega (arith, held, whole.six)))
+
+      -- behind an opening and records that stand in their places
+      pub tail_put :
+          (tail : List ℕ) →
+          tail ≡ bytes_after (tail_refusal (length rs) requests (length (take (12 + 165 * length rs + 125 - (12 + 165 * length rs)) (drop (12 + 165 * length rs) (put_mid 12 (12 + 165 * length rs - 12) (opening ++ drop 12 old) records))))) (tail_text (length rs) requests) (take (12 + 165 * length rs + 125 - (12 + 165 * length rs)) (drop (12 + 165 * length rs) (put_mid 12 (12 + 165 * length rs - 12) (opening ++ drop 12 old) records))) →
+          put_mid (12 + 165 * length rs) (12 + 165 * length rs + 125 - (12 + 165 * length rs)) (put_mid 12 (12 + 165 * length rs - 12) (opening ++ drop 12 old) records) tail ≡ statement_text o rs requests ++ drop (statement_length (length rs)) old
+      tail_put tail written =
+          let put = over_part (12 + 165 * length rs) (12 + 165 * length rs + 125) 125 (opening ++ records) old (put_mid 12 (12 + 165 * length rs - 12) (opening ++ drop 12 old) records) refl (omega arith) front_long after_records _ (tail_text (length rs) requests) tail (tail_length o rs requests whole) tail_not_refused written in
+          let text : (opening ++ records) ++ tail_text (length rs) requests ≡ statement_text o rs requests = append_assoc opening records (tail_text (length rs) requests) ∙ ap (λ (x : List ℕ). x ++ (records ++ tail_text (length rs) requests)) opened ∙ ap (λ (x : List ℕ). opening_text o ++ (x ++ tail_text (length rs) requests)) filled in
+          put ∙ ap (λ (t : List ℕ). t ++ drop (12 + 165 * length rs + 125) old) text
 
 module _ (o : Opening) (rs : List SettlementRecord) (requests : List ℤ) (old opening records tail : List ℕ) (whole : Whole o rs requests) (room : statement_length (length rs) ≤ length old) where
   -- where the tail stands
@@ -120,17 +164,9 @@ module _ (o : Opening) (rs : List SettlementRecord) (requests : List ℤ) (old o
       opening ≡ bytes_after (opening_refusal (length (take 12 old))) (opening_text o) (take 12 old) → records ≡ records_text 1 rs ++ drop (165 * length rs) (take (at - 12) (drop 12 opened)) →
       tail ≡ bytes_after (tail_refusal (length rs) requests (length tail_place)) (tail_text (length rs) requests) tail_place → put_mid at (at + 125 - at) recorded tail ≡ statement_text o rs requests ++ drop (statement_length (length rs)) old
   statement_put first second third =
-      let few = few_records o rs requests whole in
-      let front = opening_text o ++ records_text 1 rs in
-      let begun : opened ≡ opening_text o ++ drop 12 old = ap (λ (t : List ℕ). t ++ drop 12 old) (opening_part o old opening (omega arith) first) in
-      let long : length (records_text 1 rs) ≡ 165 * length rs = records_length 1 rs (omega arith) whole.records_fit in
-      let filled : recorded ≡ front ++ drop at old =
-      over_part 12 at (165 * length rs) (opening_text o) old opened refl (omega arith) (opening_length o) begun None (records_text 1 rs) records long refl (second ∙ ap (λ (n : ℕ). records_text 1 rs ++ drop n (take (at - 12) (drop 12 opened))) (sym long)) in
-      let size : length front ≡ at = length-append (opening_text o) (records_text 1 rs) ∙ (let e : length (opening_text o) + length (records_text 1 rs) ≡ at = omega (arith, opening_length o) in e) in
-      let held = part_holds at (at + 125) 125 front old recorded refl (omega arith) size filled in
-      let six : eqb (length requests) 6 ≡ true = eq-eqb (length requests) 6 whole.six in
-      let none : tail_refusal (length rs) requests (length tail_place) ≡ None = rw six (numbered_fits 3 (length rs) requests _ (omega arith) (whole.requests_fit) (omega (arith, whole.six))) in
-      over_part at (at + 125) 125 front old recorded refl (omega arith) size filled _ (tail_text (length rs) requests) tail (tail_length o rs requests whole) none third ∙ ap (λ (t : List ℕ). t ++ drop (at + 125) old) (append_assoc (opening_text o) (records_text 1 rs) (tail_text (length rs) requests))
+      let begun = opening_part o old opening (omega arith) first in
+      let filled = records_part o rs requests old opening records whole room begun second in
+      tail_put o rs requests old opening records whole room begun filled tail third
 
 -- ---- why a statement is not written
 every_fits_lem : (rs : List SettlementRecord) → All Fits rs → every_fits rs ≡ true
@@ -159,6 +195,11 @@ module _ (o : Opening) (rs : List SettlementRecord) (requests : List ℤ) where
   statement_wide room never =
       let f : is_statement o rs requests ≡ false = elim (cases_Bool (is_statement o rs requests)) [ inl e ↦ absurd (never (whole_from e)) | inr e ↦ e ] in
       rw f refl
+
+  pub statement_short : (room : ℕ) → Whole o rs requests → (statement_length (length rs) ≤ room → ⊥) → statement_refusal o rs requests room ≡ Some 16
+  statement_short room w never =
+      let l : leb (statement_length (length rs)) room ≡ false = elim (cases_Bool (leb (statement_length (length rs)) room)) [ inl e ↦ absurd (never (leb-true _ _ e)) | inr e ↦ e ] in
+      rw (is_statement_lem w, l) refl
 
   pub statement_fits : (room : ℕ) → Whole o rs requests → statement_length (length rs) ≤ room → statement_refusal o rs requests room ≡ None
   statement_fits room w le = rw (is_statement_lem w, le-leb (statement_length (length rs)) room le) refl

@@ -1,5 +1,5 @@
 -- A statement that is being read: what a line adds, and what was read by each stage.
-use Rattle.std.specs.Prelude.{◌≡◌, ℕ, ◌<◌, ◌≤◌, List, [], ◌∷◌, ◌++◌, length, Some, None}
+use Rattle.std.specs.Prelude.{◌≡◌, ℕ, ◌<◌, ◌≤◌, List, [], ◌∷◌, ◌++◌, length, take, Some, None}
 use Rattle.std.specs.List.{All}
 use Rattle.statement_lines.specs.declared.opening.Opening.{Opening as OpeningOf}
 use Rattle.statement_lines.specs.declared.record.SettlementRecord.{SettlementRecord}
@@ -16,7 +16,7 @@ use Rattle.statement.specs.Statements.{records_text, StatementIn}
 
 -- the records so far
 abbrev pub drafted : Draft → List SettlementRecord
-drafted d = d.records.items
+drafted d = take d.records.count d.records.list
 
 -- nothing was read
 abbrev pub Blank : Draft → Type 0

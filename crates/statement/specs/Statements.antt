@@ -1,5 +1,5 @@
 -- A day's statement is its opening line, a record line for each of its records in order, and its tail line.
-use Rattle.std.specs.Prelude.{◌≡◌, ℕ, ◌+◌, ◌*◌, ◌≤◌, Bool, ◌&&◌, List, [], ◌∷◌, ◌++◌, length, ℤ, Option, ◌==◌, nat_le}
+use Rattle.std.specs.Prelude.{◌≡◌, ℕ, ◌+◌, ◌*◌, ◌≤◌, Bool, ◌&&◌, List, [], ◌∷◌, ◌++◌, length, take, ℤ, Option, ◌==◌, nat_le}
 use Rattle.std.specs.List.{All, list_all}
 use Rattle.count_text.specs.Columns.{write_refusal}
 use Rattle.figure_text.specs.Rows.{Writable, writable}
@@ -47,7 +47,7 @@ StatementIn o rs requests text = Whole o rs requests × (text ≡ statement_text
 
 -- the records of a statement
 abbrev pub records_of : Statement → List SettlementRecord
-records_of s = s.records.items
+records_of s = take s.records.count s.records.list
 
 -- a statement of these values
 abbrev pub Holds : Statement → Opening → List SettlementRecord → List ℤ → Type 0

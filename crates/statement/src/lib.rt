@@ -16,6 +16,7 @@
 mod fault;
 mod read;
 mod reader;
+mod records;
 mod stage;
 mod statement;
 mod write;

@@ -7,12 +7,12 @@ ghost use Rattle.statement.specs.Statements.{StatementIn, records_of, Holds};
 
 use crate::fault::TextFault;
 use crate::reader::StatementReader;
-use crate::statement::{Records, Statement};
-use arrayvec::ArrayVec;
+use crate::records::Records;
+use crate::statement::Statement;
 use statement_lines::{Opening, SettlementRecord, StatementLine, TailLine};
 
 /// What was read of a statement so far.
-#[derive(Drop)]
+#[derive(Clone, Copy)]
 pub(crate) struct Draft {
     opening: Option<Opening>,
     records: Records,
@@ -25,7 +25,7 @@ impl Draft {
     {
         Draft {
             opening: None,
-            records: ArrayVec::new(),
+            records: Records::new(),
             tail: None,
         }
     }
@@ -36,10 +36,7 @@ impl Draft {
     {
         match content {
             StatementLine::Opening(opening) => self.opening = Some(opening),
-            StatementLine::Record(row) => {
-                // There is room: no day has more than a hundred records.
-                let _ = self.records.try_push(row.record);
-            }
+            StatementLine::Record(row) => self.records.push(row.record),
             StatementLine::Tail(tail) => self.tail = Some(tail),
         }
     }

@@ -1,18 +1,12 @@
 //! A statement as values.
 
-ghost use Rattle.std.specs.Prelude.{◌≡◌};
+ghost use Rattle.std.specs.Prelude.{◌≡◌, take as first};
 
-use arrayvec::ArrayVec;
+use crate::records::Records;
 use statement_lines::{Opening, SettlementRecord, TailLine};
 
-/// The most records of a day: the longest has a hundred quarter hours.
-const MOST: usize = 100;
-
-/// The records of a day's closed quarter hours, in order.
-pub(crate) type Records = ArrayVec<SettlementRecord, MOST>;
-
 /// A day's statement: its opening, the record of each closed quarter hour in order, and its tail.
-#[derive(Clone, Drop)]
+#[derive(Clone, Copy)]
 pub struct Statement {
     pub(crate) opening: Opening,
     pub(crate) records: Records,
@@ -28,7 +22,7 @@ impl Statement {
 
     /// The record of each closed quarter hour, in order.
     pub fn records(&self) -> &[SettlementRecord]
-        ensures { result.now ≡ self.now.records.items }
+        ensures { result.now ≡ first self.now.records.count self.now.records.list }
     {
         self.records.as_slice()
     }

@@ -1,9 +1,10 @@
-use Rattle.std.proofs.Common.{◌≡◌, ℕ, List, ◌++◌, Some, None, Err, sym, ap, ◌∙◌}
+use Rattle.std.proofs.Common.{◌≡◌, ℕ, List, ◌++◌, take, Some, None, Err, sym, ap, ◌∙◌}
 use Rattle.std.proofs.lemmas.List.{append_assoc, append-nil}
 use Rattle.std.proofs.lemmas.Result.{err_from_is_err_and}
 use Rattle.text_parts.specs.Lines.{rest_of}
 use Rattle.statement_lines.specs.declared.opening.Opening.{Opening}
 use Rattle.statement_lines.specs.declared.tail_line.TailLine.{TailLine}
+use Rattle.statement.specs.declared.records.Records.{Records}
 use Rattle.statement.specs.declared.statement.Statement.{Statement}
 use Rattle.statement.specs.Drafts.{Done, drafted}
 use Rattle.statement.specs.Reading.{Found, fault_left, text_fault}
@@ -53,6 +54,6 @@ returns c =
     let s = c.finish.result in
     let opening : done.opened ≡ s.opening = some_opening _ _ (sym done.opening ∙ c.finish.ensures.opening) in
     let tail : done.tailed ≡ s.tail = some_tail _ _ (sym done.tail ∙ c.finish.ensures.tail) in
-    let records : drafted draft ≡ records_of s = (cc c.finish.ensures.records) in
+    let records : drafted draft ≡ records_of s = ap (λ (r : Records). take r.count r.list) (sym c.finish.ensures.records) in
     let is : StatementIn s.opening (records_of s) s.tail.requests text = statement_same _ _ _ _ _ _ _ _ opening records (ap (λ (t : TailLine). t.requests) tail) front done.whole in
     record { written_is_read = λ o rs xs h. same_statement s.opening o (records_of s) rs s.tail.requests xs text is h; read_is_written = is; first_fault = rw none tt }

@@ -1,8 +1,24 @@
-use Rattle.std.proofs.Common.{replicate, refl}
-use Rattle.pending_text.proofs.Parts.{tail_appended}
+use Rattle.std.proofs.Common.{◌≡◌, ◌-◌, ◌≤◌, length, take, drop, refl, arith, rules}
+use Rattle.line_text.proofs.Puts.{part_length}
+use Rattle.statement_lines.specs.Records.{tail_text}
+use Rattle.pending_text.proofs.Parts.{line_appended, refused_in_place, tail_sized}
 use Rattle.pending_text.proofs.pending.PendingText.append_tail.Goals as goal
 
 pub returns-clause-text : goal.returns-clause-text
 returns-clause-text c =
+    let n = c.args.self.now.length in
+    let old = c.args.self.now.bytes in
+    let long : length old ≡ 676 = search rules in
+    let within : n ≤ 676 = c.args.self.now.within in
+    let room : length (take (676 - n) (drop n old)) ≡ 676 - n = part_length n 676 old within (omega arith) in
     let said = c.in_ok-write_tail_line.ensures in
-    tail_appended c.args.closed _ c.args.requests.now (replicate 125 0) _ _ _ refl said.refused_first said.bytes c.append.ensures.text
+    line_appended _ n 125 old _ (tail_text c.args.closed c.args.requests.now) _ _ refl refl long within (tail_sized c.args.closed c.args.requests.now _) (rw room at said.refused_first) (rw room at said.bytes) refl refl
+
+pub returns-in_err-write_tail_line-clause-text : goal.returns-in_err-write_tail_line-clause-text
+returns-in_err-write_tail_line-clause-text c =
+    let n = c.args.self.now.length in
+    let old = c.args.self.now.bytes in
+    let long : length old ≡ 676 = search rules in
+    let room : length (take (676 - n) (drop n old)) ≡ 676 - n = part_length n 676 old c.args.self.now.within (omega arith) in
+    let said = c.in_err-write_tail_line.ensures in
+    refused_in_place _ _ n old _ (tail_text c.args.closed c.args.requests.now) _ _ refl refl (rw room at said.refused_first) (rw room at said.bytes) refl refl
