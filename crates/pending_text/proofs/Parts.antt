@@ -1,9 +1,9 @@
 -- A line behind the pending text, and a block from its front.
-use Rattle.std.proofs.Common.{◌≡◌, ℕ, ◌+◌, ◌-◌, ◌*◌, ◌^◌, ◌<◌, ◌≤◌, ◌==◌, ◌&&◌, List, ◌++◌, length, take, drop, ℤ, Some, None, Ok, Err, Option, inl, inr, sym, refl, ap, ◌∙◌, arith}
+use Rattle.std.proofs.Common.{◌≡◌, ℕ, ◌+◌, ◌-◌, ◌*◌, ◌^◌, ◌<◌, ◌≤◌, ◌==◌, ◌&&◌, List, ◌++◌, [], length, replicate, take, drop, ℤ, Some, None, Ok, Err, Option, inl, inr, sym, refl, ap, ◌∙◌, arith}
 use borrow.Rule.Slice.PartMut.{put_mid, post_of}
 use mathlib.Core.HLevel.{is_prop→PathP}
 use native.Mathlib.Bridge.{le_prop}
-use Rattle.std.proofs.lemmas.List.{append_assoc, take-append-drop, take_all, take_at, take-take, drop-take, length-append, length-drop, length-take-le}
+use Rattle.std.proofs.lemmas.List.{append-nil, append_assoc, drop_all, take-append-drop, take_all, take_at, take-take, drop-take, length-append, length-drop, length-take-le}
 use Rattle.std.proofs.lemmas.List.Edits.{take-paste}
 use Rattle.std.specs.List.{copy_within}
 use Rattle.std.proofs.lemmas.Bool.{cases_Bool, and_parts, eqb-true, le-leb, ltb-true}
@@ -30,6 +30,14 @@ block_moved from n =
     let m : 0 + (length from - 512) ≡ 164 = omega arith in
     let d : length (drop 512 from) ≡ 164 = length-drop 512 from ∙ k in
     ap (λ (l : ℕ). take l (copy_within from 512 (length from) 0)) (sym m) ∙ take-paste from 0 (drop 512 from) (length from - 512) (omega arith) (omega arith) ∙ take_all (length from - 512) (drop 512 from) (omega arith)
+
+-- and zeros stand behind it
+pub block_zeroed :
+    (from moved blank : List ℕ) → length from ≡ 676 → length moved ≡ 676 → moved ≡ copy_within from 512 (length from) 0 → blank ≡ replicate 512 0 → put_mid 164 512 moved blank ≡ drop 512 from ++ replicate 512 0
+block_zeroed from moved blank n m is zeros =
+    let front : take 164 moved ≡ drop 512 from = ap (λ (xs : List ℕ). take 164 xs) is ∙ block_moved from n in
+    let none : post_of 164 512 moved ≡ [] = drop_all 512 (drop 164 moved) (omega (arith, length-drop 164 moved)) in
+    rw (front, zeros, none) (ap (λ (xs : List ℕ). drop 512 from ++ xs) (append-nil (replicate 512 0)))
 
 -- a line is written behind n bytes
 pub line_appended :

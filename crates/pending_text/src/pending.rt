@@ -9,7 +9,7 @@ pub const BLOCK: usize = 512;
 pub const CAPACITY: usize = 676;
 
 /// Text that was written and not yet handed out, from the first byte.
-// An array and its length, and no `ArrayVec`: that is never `Copy`, and leaves the bytes that were taken where they were.
+// An array and its length, and no `ArrayVec`: that is never `Copy`, and no clause can speak of the bytes behind its text.
 #[derive(Clone, Copy)]
 pub struct PendingText {
     pub(crate) bytes: [u8; CAPACITY],
